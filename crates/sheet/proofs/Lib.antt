@@ -1,0 +1,9 @@
+pub mod Reading
+pub mod Splitting
+pub mod Lines
+pub mod Sheets
+pub mod Lowest
+pub mod Counting
+pub mod Drafting
+pub mod Belts
+pub mod Finishing

@@ -1,0 +1,10 @@
+pub mod Words
+pub mod Refusals
+pub mod Nodes
+pub mod Rules
+pub mod Text
+pub mod Loading
+pub mod Writing
+pub mod Wires
+pub mod Drafts
+pub mod Views

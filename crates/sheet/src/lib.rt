@@ -1,0 +1,10 @@
+pub mod class;
+pub mod fault;
+mod load;
+pub mod node;
+mod reader;
+mod rules;
+pub mod sheet;
+mod split;
+pub mod text;
+mod value;
