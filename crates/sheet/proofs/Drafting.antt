@@ -6,16 +6,14 @@ use mathlib.Core.List.{List, [], _∷_, _++_}
 use Prim.Native.Nat.{ℕ, _+_, _-_, _≤_, _<_}
 use native.Mathlib.Nat.{sub-zero}
 use native.Mathlib.Omega.{arith}
-use lib.ListN.{length, take, getD, set, replicate, length-set}
+use lib.ListN.{length, take, getD, set, replicate}
 use Rattle.std.specs.shelf.Lists.{countBy}
 use Rattle.std.specs.declared.option.Option.{Option}
 use Rattle.std.specs.declared.result.Result.the-variants.{Ok, Err}
-use Rattle.std.proofs.shelf.Tests.{cases-lt, and-parts, leb-true}
-use Rattle.std.proofs.shelf.Lists.{take-more-set, length-take-le, take-append-le, take-at, getD-append-left, getD-push, getD-past, length-push, getD-replicate}
+use Rattle.std.proofs.shelf.Tests.{cases-lt}
+use Rattle.std.proofs.shelf.Lists.{take-more-set, length-take-le, getD-past, length-push, getD-replicate}
 use Rattle.std.proofs.shelf.Sums.{countBy-le-length}
 use Rattle.sheet.specs.declared.node.Node.{Node}
-use Rattle.sheet.specs.declared.node.Node.the-variants.{Free}
-use Rattle.sheet.specs.declared.node.Source.the-variants.{Sensor}
 use Rattle.sheet.specs.declared.sheet.draft.Draft.{Draft}
 use Rattle.sheet.specs.declared.fault.Refusal.the-variants.{TooMany, GateOutOfOrder}
 use Rattle.sheet.specs.Nodes.{isBelt, isFree, isThe}
@@ -25,34 +23,16 @@ use Rattle.sheet.specs.Loading.{sizeFits, admitted}
 use Rattle.sheet.specs.Wires.{bit}
 use Rattle.sheet.specs.Drafts.{Counts}
 use Rattle.sheet.proofs.Counting.{count-push}
+use Rattle.sheet.proofs.Sizes.{Sizes, sizes-parts, ordered-push}
 
 pub none-counted : (b : ℕ) → _≡_ {A = ℕ} (getD (replicate 32 0) b 0) 0
 none-counted b = ⊎-elim (getD-replicate 32 b 0 0) (getD-past (replicate 32 0) b 0) (cases-lt b 32)
-
-pub ordered-push : (ns : List Node) (n : Node) → Ordered ns → orderFits ns n ≡ true → Ordered (ns ++ n ∷ [])
-ordered-push ns n os o i h =
-    ⊎-elim
-    (λ lt. let le : i ≤ length ns = omega arith in rw (take-append-le i ns (n ∷ []) le, getD-append-left ns (n ∷ []) (Free Sensor) i lt) (os i lt))
-    (λ ge. let e : length ns ≡ i = omega (arith, length-push ns n) in rw (take-at ns (n ∷ []) i e, getD-push ns n (Free Sensor) i e) o)
-    (cases-lt i (length ns))
 
 pub counts-few : (p : ℕ → Node → Bool) (ns : List Node) (counts : List ℕ) → length ns ≤ 640 → Counts p ns counts → (b : ℕ) → b < 32 → getD counts b 0 ≤ 640
 counts-few p ns counts few told b h = omega (arith, told b h, countBy-le-length (p b) ns)
 
 pub counts-push : (p : ℕ → Node → Bool) (ns : List Node) (n : Node) (before after : List ℕ) → Counts p ns before → ((b : ℕ) → b < 32 → getD after b 0 ≡ getD before b 0 + bit (p b n)) → Counts p (ns ++ n ∷ []) after
 counts-push p ns n before after told more b h = more b h ∙ ap (λ m. m + bit (p b n)) (told b h) ∙ sym (count-push (p b) ns n)
-
--- what the test of the sizes says
-pub record Sizes (lines belts free : ℕ) : Type 0 where
-  pub lines-fit : lines ≤ 640
-  pub belts-fit : belts ≤ 32
-  pub free-fit : free ≤ 128
-
-pub sizes-parts : (lines belts free : ℕ) → sizesFit lines belts free ≡ true → Sizes lines belts free
-sizes-parts lines belts free e =
-    let p = and-parts _ _ e in
-    let q = and-parts _ _ (p .1) in
-    record { lines-fit = leb-true lines 640 (p .0); belts-fit = leb-true belts 32 (q .0); free-fit = leb-true free 128 (q .1) }
 
 module _ (d : Draft) where
   -- the nodes so far, and as the code lends them

@@ -4,6 +4,8 @@ pub mod Lines
 pub mod Sheets
 pub mod Lowest
 pub mod Counting
+pub mod Sizes
 pub mod Drafting
 pub mod Belts
-pub mod Finishing
+pub mod Fields
+pub mod Written

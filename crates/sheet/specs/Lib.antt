@@ -5,6 +5,7 @@ pub mod Rules
 pub mod Text
 pub mod Loading
 pub mod Writing
+pub mod Promises
 pub mod Wires
 pub mod Drafts
 pub mod Views

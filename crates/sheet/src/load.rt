@@ -4,6 +4,7 @@ ghost use mathlib.Core.List.{[]};
 ghost use Rattle.std.specs.Results.{Cases};
 ghost use Rattle.std.specs.declared.result.Result.the-variants.{Ok, Err};
 ghost use Rattle.sheet.specs.Loading.{valueLines, textFits, loaded};
+ghost use Rattle.sheet.specs.Promises.{Accepted, Refused};
 ghost use Rattle.sheet.specs.Refusals.{fault};
 ghost use Rattle.sheet.specs.Text.{linesOf};
 ghost use Rattle.sheet.specs.Views.{nodesIn, soFar};
@@ -29,17 +30,12 @@ fn unfit_text() -> Fault
 }
 
 // A text is not empty, not too long, and ends with a line feed.
-fn check_text(text: &[u8]) -> Result<(), Fault>
-    ensures { λ r. ⌜ Cases r (λ _. textFits (now (text .entry)) ≡ true) (λ e. (textFits (now (text .entry)) ≡ false) × (e ≡ fault UnfitText 0)) ⌝ }
+fn is_fit(text: &[u8]) -> bool
+    ensures { λ r. ⌜ r ≡ textFits (now (text .entry)) ⌝ }
 {
-    let n = text.len();
-    if n == 0 {
-        return Err(unfit_text());
-    }
-    if n <= MOST_BYTES && text[n - 1] == b'\n' {
-        Ok(())
-    } else {
-        Err(unfit_text())
+    match text.last() {
+        Some(last) => text.len() <= MOST_BYTES && *last == b'\n',
+        None => false,
     }
 }
 
@@ -57,17 +53,44 @@ fn read_values(order: Order, values: &[u8]) -> Result<Draft, Fault>
     Ok(draft)
 }
 
+// The sheet of a text that is fit, or the first refusal.
+fn read_text(text: &[u8]) -> Result<Sheet, Fault>
+    requires { ⌜ textFits (now text) ≡ true ⌝ }
+    ensures { λ r. ⌜ Cases r (λ s. loaded (now (text .entry)) ≡ Ok (nodesIn s)) (λ e. loaded (now (text .entry)) ≡ Err e) ⌝ }
+{
+    let Some((names, values)) = split_once(text, b'\n') else {
+        return Err(unfit_text());
+    };
+    let order = read_names(names)?;
+    let draft = read_values(order, values)?;
+    draft.finish()
+}
+
+// The same, with what it says of the text.
+fn read_sheet(text: &[u8]) -> Result<Sheet, Fault>
+    requires { ⌜ textFits (now text) ≡ true ⌝ }
+    ensures { λ r. ⌜ Cases r (λ s. Accepted (now (text .entry)) (nodesIn s)) (λ e. Refused (now (text .entry)) e) ⌝ }
+{
+    read_text(text)
+}
+
+// The refusal of a text that is not fit.
+fn refuse_text(text: &[u8]) -> Fault
+    requires { ⌜ textFits (now text) ≡ false ⌝ }
+    ensures { λ r. ⌜ Refused (now (text .entry)) r ⌝ }
+{
+    unfit_text()
+}
+
 impl Sheet {
     // The sheet that a text writes, or the first refusal.
     pub fn load(text: &[u8]) -> Result<Sheet, Fault>
-        ensures exact { λ r. ⌜ Cases r (λ s. loaded (now (text .entry)) ≡ Ok (nodesIn s)) (λ e. loaded (now (text .entry)) ≡ Err e) ⌝ }
+        ensures { λ r. ⌜ Cases r (λ s. Accepted (now (text .entry)) (nodesIn s)) (λ e. Refused (now (text .entry)) e) ⌝ }
     {
-        check_text(text)?;
-        let Some((names, values)) = split_once(text, b'\n') else {
-            return Err(unfit_text());
-        };
-        let order = read_names(names)?;
-        let draft = read_values(order, values)?;
-        draft.finish()
+        if is_fit(text) {
+            read_sheet(text)
+        } else {
+            Err(refuse_text(text))
+        }
     }
 }

@@ -1,4 +1,3 @@
-use mathlib.Core.Path.{_≡_, refl, sym, ap, _∙_}
 use Rattle.std.proofs.shelf.Results.{err-from-errBy}
 use Rattle.sheet.proofs.Lines.{was-some, was-none, not-one}
 use Rattle.sheet.proofs.reader.read_fields.Needs as need

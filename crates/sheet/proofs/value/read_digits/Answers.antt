@@ -1,8 +1,6 @@
 use Prim.Native.Nat.{_+_, _-_, _*_}
 use lib.ListN.{getD, drop}
 use native.Mathlib.Omega.{arith}
-use mathlib.Core.Path.{_≡_, refl, sym, ap, _∙_}
-use Rattle.std.specs.Options.{okOr}
 use Rattle.std.proofs.shelf.Results.{err-from-errBy}
 use Rattle.sheet.proofs.Reading.{digits-past, digits-yes, digits-no, digits-end}
 use Rattle.sheet.proofs.value.read_digits.Needs as need
