@@ -1,3 +1,6 @@
+ghost use mathlib.Core.Path.{_≡_};
+ghost use lib.Dec.{ltb};
+ghost use Rattle.sheet.specs.Refusals as refusals;
 use sheet::fault::Refusal;
 
 // The rule that a refused sheet breaks, in plain words.
@@ -17,7 +20,9 @@ pub(crate) fn broken_rule(refusal: Refusal) -> &'static str {
     }
 }
 
-// Whether a refusal names a line.
-pub(crate) fn names_a_line(refusal: Refusal) -> bool {
-    !matches!(refusal, Refusal::UnfitText | Refusal::WrongNamesLine)
+// Whether a refusal of loading names a line: all but those of the text and of the names line do.
+pub(crate) fn names_a_line(refusal: Refusal) -> bool
+    ensures { λ r. ⌜ r ≡ ltb 2 (refusals.number refusal) ⌝ }
+{
+    refusal.number() > 2
 }

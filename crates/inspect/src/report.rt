@@ -10,6 +10,9 @@ use std::alloc::AllocError;
 use std::alloc::Global;
 use std::error::AnyError;
 
+// How many bit lines a belt may have.
+const MOST_BITS: usize = 4;
+
 // A line number, or a dash where there is none.
 fn shown(heap: Global, line: Option<usize>) -> Result<String, AllocError> {
     match line {
@@ -20,15 +23,15 @@ fn shown(heap: Global, line: Option<usize>) -> Result<String, AllocError> {
 
 // The bit lines of belt `b`, bit 0 first, or a dash where there is none.
 fn shown_bits(heap: Global, b: usize, nodes: &[Node]) -> Result<String, AllocError> {
-    let mut text = shown(heap, find_part(Part::Bit, b, nodes, 0))?;
-    let mut last = find_part(Part::Bit, b, nodes, 0);
-    for _ in 0..3 {
-        if let Some(line) = last {
-            last = find_part(Part::Bit, b, nodes, line.saturating_add(1));
-            if let Some(next) = last {
-                let word = format!(heap, " {next}")?;
-                text.push_str(word.as_str())?;
-            }
+    let mut next = find_part(Part::Bit, b, nodes, 0);
+    let mut text = shown(heap, next)?;
+    for _ in 1..MOST_BITS {
+        if let Some(line) = next {
+            next = find_part(Part::Bit, b, nodes, line.saturating_add(1));
+        }
+        if let Some(line) = next {
+            let word = format!(heap, " {line}")?;
+            text.push_str(word.as_str())?;
         }
     }
     Ok(text)
@@ -47,7 +50,7 @@ fn print_counts(rt: &LibcRuntime, sheet: &Sheet) -> Result<(), AnyError> {
     println!(rt, "free wires {}", sheet.free_wires())?;
     println!(
         rt,
-        "gates      NOT {not}, AND {and}, OR {or}, XOR {xor}, constant 0 {low}, constant 1 {high}"
+        "gates      {not} NOT, {and} AND, {or} OR, {xor} XOR, {low} constant low, {high} constant high"
     )?;
     println!(rt, "belts      {}", sheet.belts())?;
     Ok(())
@@ -94,7 +97,11 @@ pub(crate) fn print_refusal(rt: &LibcRuntime, fault: Fault) -> Result<(), AnyErr
     println!(rt, "refused {number} at {place}")?;
     let rule = broken_rule(fault.refusal);
     if names_a_line(fault.refusal) {
-        println!(rt, "line {place} breaks a rule: {rule}")?;
+        let row = u32::from(place) + 2;
+        println!(
+            rt,
+            "value line {place}, which is line {row} of the text, breaks a rule: {rule}"
+        )?;
     } else {
         println!(rt, "the text breaks a rule: {rule}")?;
     }
