@@ -47,6 +47,15 @@ fn count_of(class: Class, nodes: &[Node]) -> usize
     n
 }
 
+// The first `len` nodes of the table, which are the sheet's.
+fn first_nodes(sheet: &Sheet, len: usize) -> &[Node]
+    requires { ⌜ len ≡ now sheet .len ⌝ }
+    ensures same { λ r. ⌜ now r ≡ nodesIn (now (sheet .entry)) ⌝ }
+    ensures lawful { λ r. ⌜ Lawful (now r) ⌝ }
+{
+    &sheet.nodes[0..len]
+}
+
 impl Sheet {
     // The sheet without lines.
     pub fn unfilled() -> Sheet
@@ -63,15 +72,14 @@ impl Sheet {
         ensures same { λ r. ⌜ now r ≡ nodesIn (now (self .entry)) ⌝ }
         ensures lawful { λ r. ⌜ Lawful (now r) ⌝ }
     {
-        let len = self.len;
-        &self.nodes[0..len]
+        first_nodes(self, self.len)
     }
 
     // How many lines the sheet has.
     pub fn len(&self) -> usize
         ensures { λ r. ⌜ r ≡ length (nodesIn (now (self .entry))) ⌝ }
     {
-        self.len
+        self.nodes().len()
     }
 
     // The node of line `i`; absent past the last line.

@@ -7,7 +7,7 @@ ghost use Rattle.std.specs.declared.option.Option.the-variants.{Some, None};
 ghost use Rattle.std.specs.declared.result.Result.the-variants.{Ok, Err};
 ghost use Rattle.sheet.specs.Loading.{admitted, checked};
 ghost use Rattle.sheet.specs.Refusals.{fault};
-ghost use Rattle.sheet.specs.Rules.{unfit};
+ghost use Rattle.sheet.specs.Rules.{nameless, unfit};
 ghost use Rattle.sheet.specs.Views.{nodesIn, soFar};
 ghost use Rattle.sheet.specs.declared.fault.Refusal.the-variants.{UnfitBelt};
 use crate::fault::Fault;
@@ -97,15 +97,21 @@ impl Draft {
         Ok(())
     }
 
-    // The sheet of all nodes, where they keep the rules over the whole.
+    // The sheet of all nodes, which keep the rules over the whole.
+    fn sheet(&self) -> Sheet
+        requires named { ⌜ nameless (soFar (now self)) ≡ None ⌝ }
+        requires complete { ⌜ unfit (soFar (now self)) ≡ None ⌝ }
+        ensures { λ r. ⌜ nodesIn r ≡ soFar (now (self .entry)) ⌝ }
+    {
+        Sheet { nodes: self.nodes, len: self.len }
+    }
+
+    // The sheet of all nodes, or the refusal of one for its names or for its belt's parts.
     pub(crate) fn finish(&self) -> Result<Sheet, Fault>
         ensures { λ r. ⌜ Cases r (λ s. checked (soFar (now (self .entry))) ≡ Ok (nodesIn s)) (λ e. checked (soFar (now (self .entry))) ≡ Err e) ⌝ }
     {
         check_names(&self.nodes[0..self.len], self.belts)?;
         self.check_belts()?;
-        Ok(Sheet {
-            nodes: self.nodes,
-            len: self.len,
-        })
+        Ok(self.sheet())
     }
 }

@@ -1,7 +1,0 @@
-use mathlib.Core.Path.{sym, subst}
-use Rattle.sheet.specs.Rules.{Lawful}
-use Rattle.sheet.proofs.Sheets.{lent-nodes, lawful}
-use Rattle.sheet.proofs.sheet.Sheet.nodes.Needs as need
-
-pub returns : need.returns
-returns c = let s = c .args .self .now in record { same = lent-nodes s; lawful = subst Lawful (sym (lent-nodes s)) (lawful s) }
