@@ -5,7 +5,6 @@ use mathlib.Core.List.{List, [], _∷_, _++_}
 use Prim.Native.Nat.{ℕ, _+_, _≤_, _<_}
 use native.Mathlib.Omega.{arith}
 use lib.ListN.{length, take, getD}
-use mir.Val.{boolByte}
 use Rattle.std.specs.shelf.Lists.{countBy}
 use Rattle.std.proofs.shelf.Lists.{take-more}
 use Rattle.std.proofs.shelf.Sums.{sumBy-push}
@@ -18,18 +17,14 @@ bit-cond : (b : Bool) → bit b ≡ cond b 1 0
 bit-cond true = refl
 bit-cond false = refl
 
-pub bit-byte : (b : Bool) → bit b ≡ boolByte b
-bit-byte true = refl
-bit-byte false = refl
-
 pub count-push : (p : Node → Bool) (ns : List Node) (n : Node) → countBy p (ns ++ n ∷ []) ≡ countBy p ns + bit (p n)
 count-push p ns n = sumBy-push (λ x. cond (p x) 1 0) ns n ∙ ap (λ m. countBy p ns + m) (sym (bit-cond (p n)))
 
 -- one turn of a loop that counts by the bytes of a test
-pub count-on : (p : Node → Bool) (ns : List Node) (i k d : ℕ) (b : Bool) → i < length ns → k ≡ countBy p (take i ns) → d ≡ boolByte b → b ≡ p (getD ns i (Free Sensor)) → k + d ≡ countBy p (take (i + 1) ns)
+pub count-on : (p : Node → Bool) (ns : List Node) (i k d : ℕ) (b : Bool) → i < length ns → k ≡ countBy p (take i ns) → d ≡ bit b → b ≡ p (getD ns i (Free Sensor)) → k + d ≡ countBy p (take (i + 1) ns)
 count-on p ns i k d b h e f g =
-    rw (take-more ns i (Free Sensor) h, count-push p (take i ns) (getD ns i (Free Sensor)), ← e, f, ← bit-byte b, g)
+    rw (take-more ns i (Free Sensor) h, count-push p (take i ns) (getD ns i (Free Sensor)), ← e, f, g)
 
-pub byte-le : (b : Bool) → boolByte b ≤ 1
+pub byte-le : (b : Bool) → bit b ≤ 1
 byte-le true = omega arith
 byte-le false = omega arith

@@ -1,10 +1,8 @@
 -- What a sheet means: the wires' values in a row of free wire values, and the belts' events in it.
 use Rattle.sheet.specs.Words.{ℕ, _+_, Bool, true, false, not, cond, _&&_, _||_, List, [], _∷_, _++_, getD, Node, Free, Belt, Gate, Logic, Constant, Not, And, Or, Xor}
+-- a wire's value as a number
+pub use mir.Val.{boolByte as bit}
 use Rattle.sheet.specs.Nodes.{isFree, isRoomOf, isItemOf, beltsOf}
-
-abbrev pub bit : Bool → ℕ
-bit true = 1
-bit false = 0
 
 abbrev pub differ : Bool → Bool → Bool
 differ true b = not b

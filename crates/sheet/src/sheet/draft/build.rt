@@ -103,7 +103,10 @@ impl Draft {
         requires complete { ⌜ unfit (soFar (now self)) ≡ None ⌝ }
         ensures { λ r. ⌜ nodesIn r ≡ soFar (now (self .entry)) ⌝ }
     {
-        Sheet { nodes: self.nodes, len: self.len }
+        Sheet {
+            nodes: self.nodes,
+            len: self.len,
+        }
     }
 
     // The sheet of all nodes, or the refusal of one for its names or for its belt's parts.

@@ -3,22 +3,21 @@ use native.Mathlib.Omega.{arith}
 use lib.ListN.{length-set}
 use Rattle.sheet.specs.Nodes.{isRoomOf, isItemOf, isBitOf, roomOf, itemOf, bitOf}
 use Rattle.sheet.specs.Wires.{bit}
-use Rattle.sheet.proofs.Counting.{bit-byte}
 use Rattle.sheet.proofs.Drafting.{before, length-before, counts-few, too-many, out-of-order, fits, goes-in, belts-counted, free-counted, stays-ordered, stays-counted}
 use Rattle.sheet.proofs.sheet.draft.Draft.push.Needs as need
 
 pub returns-then-not-sizes-fit : need.returns-then-not-sizes-fit
 returns-then-not-sizes-fit c =
     too-many (c .args .self .now) (c .args .node) _ _
-    (c .from .ensures ∙ sym (bit-byte _) ∙ ap bit (c .is-belt .ensures))
-    (c .from-2 .ensures ∙ sym (bit-byte _) ∙ ap bit (c .is-free .ensures))
+    (c .from .ensures ∙ ap bit (c .is-belt .ensures))
+    (c .from-2 .ensures ∙ ap bit (c .is-free .ensures))
     (sym (c .if-not-sizes-fit .ensures tt))
 
 pub returns-then-not-order-fits : need.returns-then-not-order-fits
 returns-then-not-order-fits c =
     out-of-order (c .args .self .now) (c .args .node) _ _
-    (c .from .ensures ∙ sym (bit-byte _) ∙ ap bit (c .is-belt .ensures))
-    (c .from-2 .ensures ∙ sym (bit-byte _) ∙ ap bit (c .is-free .ensures))
+    (c .from .ensures ∙ ap bit (c .is-belt .ensures))
+    (c .from-2 .ensures ∙ ap bit (c .is-free .ensures))
     (sym (c .if-not-sizes-fit .ensures tt))
     (sym (c .if-not-order-fits .ensures tt))
 
@@ -35,8 +34,8 @@ pub ghost-self : need.ghost-self
 ghost-self c =
     let d = c .args .self .now in
     let n = c .args .node in
-    let eb = c .from .ensures ∙ sym (bit-byte _) ∙ ap bit (c .is-belt .ensures) in
-    let ef = c .from-2 .ensures ∙ sym (bit-byte _) ∙ ap bit (c .is-free .ensures) in
+    let eb = c .from .ensures ∙ ap bit (c .is-belt .ensures) in
+    let ef = c .from-2 .ensures ∙ ap bit (c .is-free .ensures) in
     let s = sym (c .if-not-sizes-fit .ensures tt) in
     let o = sym (c .if-not-order-fits .ensures tt) in
     let z = fits d n _ _ eb ef s o in (
@@ -68,7 +67,7 @@ ghost-self c =
 pub returns : need.returns
 returns c =
     goes-in (c .args .self .now) (c .args .node) _ _
-    (c .from .ensures ∙ sym (bit-byte _) ∙ ap bit (c .is-belt .ensures))
-    (c .from-2 .ensures ∙ sym (bit-byte _) ∙ ap bit (c .is-free .ensures))
+    (c .from .ensures ∙ ap bit (c .is-belt .ensures))
+    (c .from-2 .ensures ∙ ap bit (c .is-free .ensures))
     (sym (c .if-not-sizes-fit .ensures tt))
     (sym (c .if-not-order-fits .ensures tt))

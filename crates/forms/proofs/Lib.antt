@@ -1,0 +1,5 @@
+pub mod Wiring
+pub mod Slots
+pub mod Limits
+pub mod Filled
+pub mod Told

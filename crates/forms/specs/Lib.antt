@@ -1,0 +1,4 @@
+pub mod Gates
+pub mod Calls
+pub mod Promises
+pub mod Slots

@@ -1,0 +1,7 @@
+mod filling;
+mod gates;
+mod slot;
+mod wires;
+
+pub use wires::same_form;
+pub use wires::terms;

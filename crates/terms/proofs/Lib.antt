@@ -1,0 +1,14 @@
+pub mod BitLaws
+pub mod IntLaws
+pub mod Bytes
+pub mod Meaning
+pub mod Values
+pub mod Rises
+pub mod Canon
+pub mod Recorded
+pub mod Wide
+pub mod Norms
+pub mod Over
+pub mod Inserts
+pub mod Fitting
+pub mod Gating

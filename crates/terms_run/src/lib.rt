@@ -1,0 +1,3 @@
+// Forms that are worked out and counted.
+#[cfg(test)]
+mod tests;
