@@ -1,0 +1,13 @@
+pub mod Euclid
+pub mod Wholes
+pub mod Parities
+pub mod Ring
+pub mod Filing
+pub mod Comb
+pub mod Division
+pub mod Filed
+pub mod Handling
+pub mod Finding
+pub mod Shape
+pub mod Arrival
+pub mod Exactness
