@@ -78,12 +78,14 @@ pub trait Number: Copy {
 }
 
 // Of every kind of number: each balance comes to zero in every column; a weighting does so exactly when a nonzero
-// multiple of it is a sum of multiples of the balances; balances are no more than rows, each within the limit.
+// multiple of it is a sum of multiples of the balances; balances are no more than rows, each within the limit;
+// a step clears its column. The answer is 0: the call is there for what it says.
 pub fn balances_are_exact<T: Number>() -> u8
     ensures sound { λ _. ⌜ Sound kind ⌝ }
     ensures exactly { λ _. ⌜ Exactly kind ⌝ }
     ensures shaped { λ _. ⌜ Shaped kind ⌝ }
     ensures clear { λ _. ⌜ StepsClear kind ⌝ }
+    ensures answer { λ r. ⌜ r ≡ 0 ⌝ }
 {
     0
 }
@@ -92,6 +94,7 @@ pub fn balances_are_exact<T: Number>() -> u8
 pub fn kinds_are_lawful() -> u8
     ensures wholes { λ _. ⌜ Lawful wholes ⌝ }
     ensures parities { λ _. ⌜ Lawful parities ⌝ }
+    ensures answer { λ r. ⌜ r ≡ 0 ⌝ }
 {
     0
 }
