@@ -19,8 +19,8 @@ pub enum Answer {
 
 // Makes one call.
 pub fn perform<B: Belt>(belt: &mut B, call: Call) -> Answer
-    ensures said { result ≡ answer call (model belt.old) }
-    ensures after { model belt.new ≡ next call (model belt.old) }
+    ensures said { result ≡ answer call (B.model belt.old) }
+    ensures after { B.model belt.new ≡ next call (B.model belt.old) }
 {
     match call {
         Call::Put(word) => Answer::Said(belt.put(word)),
@@ -31,9 +31,9 @@ pub fn perform<B: Belt>(belt: &mut B, call: Call) -> Answer
 // Makes the first `done` calls and logs what each answered.
 fn log_calls<B: Belt>(belt: &mut B, calls: &[Call], answers: &mut [Answer], done: usize)
     requires { (done ≤ length calls.now) × (done ≤ length answers.old) }
-    ensures log { answers.new ≡ answered (take done calls.now) (model belt.old) ++ drop done answers.old }
-    ensures after { model belt.new ≡ driven (take done calls.now) (model belt.old) }
-    ensures order { InOrder (model belt.old) calls.now (take done answers.new) (model belt.new) }
+    ensures log { answers.new ≡ answered (take done calls.now) (B.model belt.old) ++ drop done answers.old }
+    ensures after { B.model belt.new ≡ driven (take done calls.now) (B.model belt.old) }
+    ensures order { InOrder (B.model belt.old) calls.now (take done answers.new) (B.model belt.new) }
 {
     for i in 0..done {
         answers[i] = perform(belt, calls[i]);
@@ -44,9 +44,9 @@ fn log_calls<B: Belt>(belt: &mut B, calls: &[Call], answers: &mut [Answer], done
 // Later places of `answers` stay. By the log alone, no word is lost, doubled, altered but for the cut, or overtaken.
 pub fn drive<B: Belt>(belt: &mut B, calls: &[Call], answers: &mut [Answer]) -> usize
     ensures made { result ≡ min (length calls.now) (length answers.old) }
-    ensures log { answers.new ≡ answered (take result calls.now) (model belt.old) ++ drop result answers.old }
-    ensures after { model belt.new ≡ driven (take result calls.now) (model belt.old) }
-    ensures order { InOrder (model belt.old) calls.now (take result answers.new) (model belt.new) }
+    ensures log { answers.new ≡ answered (take result calls.now) (B.model belt.old) ++ drop result answers.old }
+    ensures after { B.model belt.new ≡ driven (take result calls.now) (B.model belt.old) }
+    ensures order { InOrder (B.model belt.old) calls.now (take result answers.new) (B.model belt.new) }
 {
     let done = calls.len().min(answers.len());
     log_calls(belt, calls, answers, done);

@@ -1,3 +1,5 @@
+#![tactic(auto)]
+
 pub mod belt;
 pub mod clients;
 pub mod drive;

@@ -39,7 +39,7 @@ pub(crate) trait Store {
 
 // The oldest word, which stays.
 pub(crate) fn head_of<S: Store>(store: &S) -> Option<u8>
-    ensures { result ≡ head_of (stored store.now) }
+    ensures { result ≡ head_of (S.stored store.now) }
 {
     if store.held() == 0 {
         return None;
@@ -49,8 +49,8 @@ pub(crate) fn head_of<S: Store>(store: &S) -> Option<u8>
 
 // Keeps the word, cut to the width, where there is room, and says whether there was.
 pub(crate) fn put_into<S: Store>(store: &mut S, word: u8) -> bool
-    ensures said { result ≡ roomy (stored store.old) }
-    ensures kept { stored store.new ≡ putting word (stored store.old) }
+    ensures said { result ≡ roomy (S.stored store.old) }
+    ensures kept { S.stored store.new ≡ putting word (S.stored store.old) }
 {
     if store.held() >= store.capacity() {
         return false;
@@ -62,8 +62,8 @@ pub(crate) fn put_into<S: Store>(store: &mut S, word: u8) -> bool
 
 // Lets the oldest word go, and answers it.
 pub(crate) fn take_from<S: Store>(store: &mut S) -> Option<u8>
-    ensures said { result ≡ head_of (stored store.old) }
-    ensures kept { stored store.new ≡ taking (stored store.old) }
+    ensures said { result ≡ head_of (S.stored store.old) }
+    ensures kept { S.stored store.new ≡ taking (S.stored store.old) }
 {
     if store.held() == 0 {
         return None;

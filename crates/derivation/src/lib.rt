@@ -1,4 +1,6 @@
 // The balances of a sheet's belts: which weighted sums of belt counts are always zero, or always even.
+#![tactic(auto)]
+
 mod columns;
 mod derive;
 mod flow;

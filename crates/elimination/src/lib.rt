@@ -1,4 +1,6 @@
 // Elimination of rows of whole coefficients, over whole numbers and over parities.
+#![tactic(auto)]
+
 mod reduce;
 mod rows;
 mod solve;

@@ -35,8 +35,8 @@ fn step<T: Number>(row: &mut [T], wide_row: &mut [T::Wide], other: &[T], t: usiz
     requires room { length wide_row.old ≡ length row.old }
     requires alike { length other.now ≡ length row.old }
     requires inside { t < length row.old }
-    ensures within { result ≡ not (any_past kind (stepped kind (at kind (map value row.old) t) (at kind (map value other.now) t) (map value row.old) (map value other.now))) }
-    ensures stored { result ≡ true → map value row.new ≡ stepped kind (at kind (map value row.old) t) (at kind (map value other.now) t) (map value row.old) (map value other.now) }
+    ensures within { result ≡ not (any_past T.kind (stepped T.kind (at T.kind (map T.value row.old) t) (at T.kind (map T.value other.now) t) (map T.value row.old) (map T.value other.now))) }
+    ensures stored { result ≡ true → map T.value row.new ≡ stepped T.kind (at T.kind (map T.value row.old) t) (at T.kind (map T.value other.now) t) (map T.value row.old) (map T.value other.now) }
 {
     let (c, p) = T::lowest(row[t], other[t]);
     combine_row(wide_row, p, row, c, other);
@@ -57,7 +57,7 @@ fn reduce<T: Number>(
     requires whole { length leads.now * length row.old ≤ length rows.now }
     requires inside { n ≤ length row.old }
     ensures place { Inside result (length row.old - n) }
-    ensures result { told kind result (negated_if kind (ends_below kind n result (map value row.new)) (map value row.new)) ≡ handled kind n (kept_of (length row.old) leads.now (map value rows.now)) (length row.old - n) 0 (map value row.old) }
+    ensures result { told T.kind result (negated_if T.kind (ends_below T.kind n result (map T.value row.new)) (map T.value row.new)) ≡ handled T.kind n (kept_of (length row.old) leads.now (map T.value rows.now)) (length row.old - n) 0 (map T.value row.old) }
 {
     let size = row.len();
     for j in 0..size - n {
@@ -78,7 +78,7 @@ fn reduce<T: Number>(
 fn ends_below<T: Number>(row: &[T], n: usize, end: End) -> bool
     requires long { n ≤ length row.now }
     requires inside { Inside end (length row.now - n) }
-    ensures { result ≡ ends_below kind n end (map value row.now) }
+    ensures { result ≡ ends_below T.kind n end (map T.value row.now) }
 {
     match end {
         End::Lead(j) => row[n + j].is_below_zero(),
@@ -98,7 +98,7 @@ pub(crate) fn handle<T: Number>(
     requires room { length wide_row.old ≡ length row.old }
     requires whole { length leads.now * length row.old ≤ length rows.now }
     requires inside { n ≤ length row.old }
-    ensures { told kind result (map value row.new) ≡ handled kind n (kept_of (length row.old) leads.now (map value rows.now)) (length row.old - n) 0 (map value row.old) }
+    ensures { told T.kind result (map T.value row.new) ≡ handled T.kind n (kept_of (length row.old) leads.now (map T.value rows.now)) (length row.old - n) 0 (map T.value row.old) }
 {
     let end = reduce(row, wide_row, leads, rows, n);
     let below = ends_below(row, n, end);

@@ -8,7 +8,7 @@ use kinds::Number;
 pub(crate) fn set_weights<T: Number>(row: &mut [T], n: usize, b: usize)
     requires room { n ≤ length row.old }
     requires inside { b < n }
-    ensures { map value (take n row.new) ≡ unit kind n b }
+    ensures { map T.value (take n row.new) ≡ unit T.kind n b }
 {
     for i in 0..n {
         row[i] = T::zero();
@@ -19,8 +19,8 @@ pub(crate) fn set_weights<T: Number>(row: &mut [T], n: usize, b: usize)
 // The coefficients of a row, after its n weights: false where one passes the limit.
 pub(crate) fn set_coefficients<T: Number>(row: &mut [T], n: usize, coefficients: &[i64]) -> bool
     requires { length row.old ≡ n + length coefficients.now }
-    ensures within { result ≡ not (any_past kind (map kind.counts coefficients.now)) }
-    ensures stored { result ≡ true → map value row.new ≡ map value (take n row.old) ++ map kind.counts coefficients.now }
+    ensures within { result ≡ not (any_past T.kind (map T.kind.counts coefficients.now)) }
+    ensures stored { result ≡ true → map T.value row.new ≡ map T.value (take n row.old) ++ map T.kind.counts coefficients.now }
 {
     for i in 0..coefficients.len() {
         let Some(x) = T::counted(coefficients[i]) else {
@@ -35,8 +35,8 @@ pub(crate) fn set_coefficients<T: Number>(row: &mut [T], n: usize, coefficients:
 pub(crate) fn start_row<T: Number>(row: &mut [T], n: usize, b: usize, coefficients: &[i64]) -> bool
     requires room { length row.old ≡ n + length coefficients.now }
     requires inside { b < n }
-    ensures within { result ≡ not (any_past kind (unit kind n b ++ map kind.counts coefficients.now)) }
-    ensures stored { result ≡ true → map value row.new ≡ unit kind n b ++ map kind.counts coefficients.now }
+    ensures within { result ≡ not (any_past T.kind (unit T.kind n b ++ map T.kind.counts coefficients.now)) }
+    ensures stored { result ≡ true → map T.value row.new ≡ unit T.kind n b ++ map T.kind.counts coefficients.now }
 {
     set_weights(row, n, b);
     set_coefficients(row, n, coefficients)
@@ -46,7 +46,7 @@ pub(crate) fn start_row<T: Number>(row: &mut [T], n: usize, b: usize, coefficien
 pub(crate) fn combine_row<T: Number>(out: &mut [T::Wide], a: T, row: &[T], c: T, other: &[T])
     requires long { length row.now ≡ length out.old }
     requires alike { length other.now ≡ length out.old }
-    ensures { map wide out.new ≡ less kind (value a) (map value row.now) (value c) (map value other.now) }
+    ensures { map T.wide out.new ≡ less T.kind (T.value a) (map T.value row.now) (T.value c) (map T.value other.now) }
 {
     for i in 0..out.len() {
         out[i] = T::combined(a, row[i], c, other[i]);
@@ -55,7 +55,7 @@ pub(crate) fn combine_row<T: Number>(out: &mut [T::Wide], a: T, row: &[T], c: T,
 
 // The divisor of all the numbers of a row.
 pub(crate) fn row_divisor<T: Number>(row: &[T::Wide]) -> T::Wide
-    ensures { wide result ≡ divisor_from kind kind.zero (map wide row.now) }
+    ensures { T.wide result ≡ divisor_from T.kind T.kind.zero (map T.wide row.now) }
 {
     let mut d = T::wide_zero();
     for x in row {
@@ -65,7 +65,7 @@ pub(crate) fn row_divisor<T: Number>(row: &[T::Wide]) -> T::Wide
 }
 
 pub(crate) fn divide_row<T: Number>(row: &mut [T::Wide], d: T::Wide)
-    ensures { map wide row.new ≡ over kind (wide d) (map wide row.old) }
+    ensures { map T.wide row.new ≡ over T.kind (T.wide d) (map T.wide row.old) }
 {
     for i in 0..row.len() {
         row[i] = T::quotient(row[i], d);
@@ -75,8 +75,8 @@ pub(crate) fn divide_row<T: Number>(row: &mut [T::Wide], d: T::Wide)
 // Stores the row: false where a number passes the limit.
 pub(crate) fn store_row<T: Number>(row: &mut [T], from: &[T::Wide]) -> bool
     requires { length from.now ≡ length row.old }
-    ensures within { result ≡ not (any_past kind (map wide from.now)) }
-    ensures stored { result ≡ true → map value row.new ≡ map wide from.now }
+    ensures within { result ≡ not (any_past T.kind (map T.wide from.now)) }
+    ensures stored { result ≡ true → map T.value row.new ≡ map T.wide from.now }
 {
     for i in 0..row.len() {
         let Some(x) = T::narrowed(from[i]) else {
@@ -90,7 +90,7 @@ pub(crate) fn store_row<T: Number>(row: &mut [T], from: &[T::Wide]) -> bool
 // Whether the first nonzero of the first n numbers is below zero.
 pub(crate) fn leads_below<T: Number>(row: &[T], n: usize) -> bool
     requires { n ≤ length row.now }
-    ensures { result ≡ leads_below kind n (map value row.now) }
+    ensures { result ≡ leads_below T.kind n (map T.value row.now) }
 {
     for i in 0..n {
         if !row[i].is_zero() {
@@ -101,7 +101,7 @@ pub(crate) fn leads_below<T: Number>(row: &[T], n: usize) -> bool
 }
 
 fn negate_row<T: Number>(row: &mut [T])
-    ensures { map value row.new ≡ map kind.neg (map value row.old) }
+    ensures { map T.value row.new ≡ map T.kind.neg (map T.value row.old) }
 {
     for i in 0..row.len() {
         row[i] = row[i].negated();
@@ -110,7 +110,7 @@ fn negate_row<T: Number>(row: &mut [T])
 
 // Negates the row if told to.
 pub(crate) fn negate_when<T: Number>(row: &mut [T], below: bool)
-    ensures { map value row.new ≡ negated_if kind below (map value row.old) }
+    ensures { map T.value row.new ≡ negated_if T.kind below (map T.value row.old) }
 {
     if below {
         negate_row(row);

@@ -34,7 +34,7 @@ fn keep<T: Number>(
     requires led { used + found < length leads.old }
     requires room { used * length row.now + length row.now ≤ length rows.old }
     requires place { found * n + n ≤ length balances.old }
-    ensures { MatchOption result (added kind n (state_of n (length row.now) used found leads.old (map value rows.old) (map value balances.old)) (told kind end (map value row.now)) ≡ None) (λ more. (found ≤ more) × (more ≤ found + 1) × (added kind n (state_of n (length row.now) used found leads.old (map value rows.old) (map value balances.old)) (told kind end (map value row.now)) ≡ Some (state_of n (length row.now) (used + 1 + found - more) more leads.new (map value rows.new) (map value balances.new)))) }
+    ensures { MatchOption result (added T.kind n (state_of n (length row.now) used found leads.old (map T.value rows.old) (map T.value balances.old)) (told T.kind end (map T.value row.now)) ≡ None) (λ more. (found ≤ more) × (more ≤ found + 1) × (added T.kind n (state_of n (length row.now) used found leads.old (map T.value rows.old) (map T.value balances.old)) (told T.kind end (map T.value row.now)) ≡ Some (state_of n (length row.now) (used + 1 + found - more) more leads.new (map T.value rows.new) (map T.value balances.new)))) }
 {
     match end {
         End::Lead(j) => {
@@ -68,7 +68,7 @@ fn eliminate<T: Number>(
     requires led { n ≤ length leads.old }
     requires room { n * (n + m) ≤ length rows.old }
     requires place { n * n ≤ length balances.old }
-    ensures { MatchResult result (λ k. (k ≤ n) × (balances_of kind n m coefficients.now ≡ Ok (rows_of k n (map value balances.new)))) (λ b. balances_of kind n m coefficients.now ≡ Err b) }
+    ensures { MatchResult result (λ k. (k ≤ n) × (balances_of T.kind n m coefficients.now ≡ Ok (rows_of k n (map T.value balances.new)))) (λ b. balances_of T.kind n m coefficients.now ≡ Err b) }
 {
     let mut found = 0;
     for b in 0..n {
@@ -89,7 +89,7 @@ fn eliminate<T: Number>(
 fn write_weights<T: Number>(weights: &mut [i32], balances: &[T], count: usize)
     requires room { count ≤ length weights.old }
     requires full { count ≤ length balances.now }
-    ensures { weights.new ≡ map kind.writes (map value (take count balances.now)) ++ drop count weights.old }
+    ensures { weights.new ≡ map T.kind.writes (map T.value (take count balances.now)) ++ drop count weights.old }
 {
     for i in 0..count {
         weights[i] = balances[i].written();
@@ -130,8 +130,8 @@ fn solve<T: Number>(
     requires led { 32 ≤ length leads.old }
     requires room { 9216 ≤ length rows.old }
     requires place { 1024 ≤ length balances.old }
-    ensures result { (result, weights.new) ≡ solved kind n m coefficients.now weights.old }
-    ensures exact { IfOk result (λ k. Exact kind n m coefficients.now k weights.new) }
+    ensures result { (result, weights.new) ≡ solved T.kind n m coefficients.now weights.old }
+    ensures exact { IfOk result (λ k. Exact T.kind n m coefficients.now k weights.new) }
 {
     if !sizes_fit(n, m, coefficients.len(), weights.len()) {
         return Err(EliminationError::Sizes);

@@ -1,4 +1,6 @@
 // Eliminations worked by hand, and run.
+#![tactic(auto)]
+
 #[cfg(test)]
 mod tests {
     use elimination::{EliminationError, eliminate_parity, eliminate_whole};

@@ -1,4 +1,6 @@
 // Worked examples, shown for the definitions themselves.
+#![tactic(auto)]
+
 ghost use Rattle.std.specs.Prelude.{◌≡◌};
 ghost use Rattle.examples.specs.Examples.{AllHold};
 

@@ -1,4 +1,6 @@
 // The flows of a sheet's belts, their columns, and what the balances derived from them are.
+#![tactic(auto)]
+
 ghost use Rattle.std.specs.Prelude.{◌≡◌};
 ghost use Rattle.kinds.specs.Kinds.{wholes, parities};
 ghost use Rattle.flows.specs.Completeness.{Zero, Even, BalancesAreComplete};

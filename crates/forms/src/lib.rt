@@ -1,3 +1,5 @@
+#![tactic(auto)]
+
 mod filling;
 mod gates;
 pub mod held;

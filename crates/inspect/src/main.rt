@@ -1,3 +1,5 @@
+#![tactic(auto)]
+
 mod explain;
 mod parts;
 mod report;

@@ -1,4 +1,6 @@
 // Kinds of number, and what elimination over them gives.
+#![tactic(auto)]
+
 ghost use Rattle.std.specs.Prelude.{◌≡◌, true, false, MatchOption};
 ghost use Rattle.kinds.specs.Kinds.{Kind, Lawful, wholes, parities};
 ghost use Rattle.kinds.specs.Completeness.{Sound, Exactly, Shaped, StepsClear};
@@ -76,10 +78,10 @@ pub trait Number: Copy {
 // multiple of it is a sum of multiples of the balances; balances are no more than rows, each within the limit;
 // a step clears its column. The answer is 0: the call is there for what it says.
 pub fn balances_are_exact<T: Number>() -> u8
-    ensures sound { Sound kind }
-    ensures exactly { Exactly kind }
-    ensures shaped { Shaped kind }
-    ensures clear { StepsClear kind }
+    ensures sound { Sound T.kind }
+    ensures exactly { Exactly T.kind }
+    ensures shaped { Shaped T.kind }
+    ensures clear { StepsClear T.kind }
     ensures answer { result ≡ 0 }
 {
     0

@@ -33,7 +33,7 @@ pub(crate) fn are_wrong(sheet: &Sheet, sensors: &[u8]) -> bool
 // The lowest belt whose width is below its number of bit lines.
 fn narrow_belt<B: Bank>(bank: &B, nodes: &[Node]) -> Option<u16>
     requires { Lawful nodes.now }
-    ensures { result ≡ narrow nodes.now (belts bank.now) }
+    ensures { result ≡ narrow nodes.now (B.belts bank.now) }
 {
     let numbers = Numbers::all(nodes);
     for b in 0..bank.size() {
@@ -46,7 +46,7 @@ fn narrow_belt<B: Bank>(bank: &B, nodes: &[Node]) -> Option<u16>
 
 // The lowest belt that holds a word.
 fn laden_belt<B: Bank>(bank: &B) -> Option<u16>
-    ensures { result ≡ laden (belts bank.now) }
+    ensures { result ≡ laden (B.belts bank.now) }
 {
     for b in 0..bank.size() {
         if bank.head(b).is_some() {
@@ -58,7 +58,7 @@ fn laden_belt<B: Bank>(bank: &B) -> Option<u16>
 
 // Whether the sheet may be mounted over the bank.
 pub(crate) fn check_mount<B: Bank>(bank: &B, sheet: &Sheet) -> Result<(), Fault>
-    ensures { result ≡ mount_test (belts bank.now) (nodes_in sheet.now) }
+    ensures { result ≡ mount_test (B.belts bank.now) (nodes_in sheet.now) }
 {
     if bank.size() != sheet.belts() {
         return Err(Fault {

@@ -19,7 +19,7 @@ pub fn tick_new<B: Bank>(
 ) -> (Line<B>, Result<(usize, usize), Fault>)
     ensures answer { result.1 ≡ Err (fault NoSheet 0) }
     ensures memory { events.new ≡ events.old }
-    ensures after { view belts result.0 ≡ new_line (belts bank) }
+    ensures after { view B.belts result.0 ≡ new_line (B.belts bank) }
 {
     let mut line = Line::new(bank);
     let answer = line.tick(sensors, events);
@@ -34,10 +34,10 @@ pub fn try_sheet<B: Bank>(
     events: &mut [u8],
     belt: usize,
 ) -> (Result<(usize, usize), Fault>, Option<u16>)
-    ensures answer { result.0 ≡ (tick (mount (view belts line.old) (nodes_in sheet.now)).after sensors.now events.old).answer }
-    ensures memory { events.new ≡ (tick (mount (view belts line.old) (nodes_in sheet.now)).after sensors.now events.old).memory }
-    ensures count { result.1 ≡ read (tick (mount (view belts line.old) (nodes_in sheet.now)).after sensors.now events.old).after belt }
-    ensures after { view belts line.new ≡ (clear (tick (mount (view belts line.old) (nodes_in sheet.now)).after sensors.now events.old).after).after }
+    ensures answer { result.0 ≡ (tick (mount (view B.belts line.old) (nodes_in sheet.now)).after sensors.now events.old).answer }
+    ensures memory { events.new ≡ (tick (mount (view B.belts line.old) (nodes_in sheet.now)).after sensors.now events.old).memory }
+    ensures count { result.1 ≡ read (tick (mount (view B.belts line.old) (nodes_in sheet.now)).after sensors.now events.old).after belt }
+    ensures after { view B.belts line.new ≡ (clear (tick (mount (view B.belts line.old) (nodes_in sheet.now)).after sensors.now events.old).after).after }
 {
     let _ = line.mount(sheet);
     let answer = line.tick(sensors, events);

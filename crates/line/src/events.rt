@@ -47,7 +47,7 @@ fn pair_at(pairs: &[(u16, u16)], b: usize) -> (u16, u16)
 
 // Whether a word enters belt `b` and whether one leaves it, by its offer and take wires and by what the bank tells now.
 fn belt_events<B: Bank>(bank: &B, wires: &[bool], pair: (u16, u16), b: usize) -> (bool, bool)
-    ensures { result ≡ ((slice_index_or wires.now pair.0 false && roomy (numbered (belts bank.now) b)), (slice_index_or wires.now pair.1 false && is_some (head_of (numbered (belts bank.now) b)))) }
+    ensures { result ≡ ((slice_index_or wires.now pair.0 false && roomy (numbered (B.belts bank.now) b)), (slice_index_or wires.now pair.1 false && is_some (head_of (numbered (B.belts bank.now) b)))) }
 {
     let (offer, take) = pair;
     let leaves = flag(wires, usize::from(take)) & bank.head(b).is_some();
@@ -64,8 +64,8 @@ pub(crate) fn report<B: Bank>(
 ) -> (usize, usize)
     requires lawful { Lawful nodes.now }
     requires room { 2 * belt_count nodes.now ≤ length events.old }
-    ensures bytes { events.new ≡ event_bytes (enters nodes.now wires.now (λ c. roomy (numbered (belts bank.now) c))) (leaves nodes.now wires.now (λ c. is_some (head_of (numbered (belts bank.now) c)))) (belt_count nodes.now) ++ drop (2 * belt_count nodes.now) events.old }
-    ensures pair { result ≡ (how_many (enters nodes.now wires.now (λ c. roomy (numbered (belts bank.now) c))) (belt_count nodes.now), how_many (leaves nodes.now wires.now (λ c. is_some (head_of (numbered (belts bank.now) c)))) (belt_count nodes.now)) }
+    ensures bytes { events.new ≡ event_bytes (enters nodes.now wires.now (λ c. roomy (numbered (B.belts bank.now) c))) (leaves nodes.now wires.now (λ c. is_some (head_of (numbered (B.belts bank.now) c)))) (belt_count nodes.now) ++ drop (2 * belt_count nodes.now) events.old }
+    ensures pair { result ≡ (how_many (enters nodes.now wires.now (λ c. roomy (numbered (B.belts bank.now) c))) (belt_count nodes.now), how_many (leaves nodes.now wires.now (λ c. is_some (head_of (numbered (B.belts bank.now) c)))) (belt_count nodes.now)) }
 {
     let (table, n) = belt_wires(nodes);
     let pairs = &table[0..n];

@@ -38,7 +38,7 @@ pub(crate) fn words(nodes: &[Node], wires: &[bool]) -> [u8; 32]
 
 // Belt `b` gives up its head if it leaves.
 fn give_up<B: Bank>(bank: &mut B, b: usize, leave: bool)
-    ensures { belts bank.new ≡ given_up leave b (belts bank.old) }
+    ensures { B.belts bank.new ≡ given_up leave b (B.belts bank.old) }
 {
     if leave {
         let _ = bank.take(b);
@@ -47,7 +47,7 @@ fn give_up<B: Bank>(bank: &mut B, b: usize, leave: bool)
 
 // Belt `b` takes in a word if one enters.
 fn take_in<B: Bank>(bank: &mut B, b: usize, enter: bool, word: u8)
-    ensures { belts bank.new ≡ taken_in enter word b (belts bank.old) }
+    ensures { B.belts bank.new ≡ taken_in enter word b (B.belts bank.old) }
 {
     if enter {
         let _ = bank.put(b, word);
@@ -56,7 +56,7 @@ fn take_in<B: Bank>(bank: &mut B, b: usize, enter: bool, word: u8)
 
 // Belt `b` gives up its head if it leaves, and then takes in a word if one enters.
 fn move_belt<B: Bank>(bank: &mut B, b: usize, enter: bool, leave: bool, word: u8)
-    ensures { belts bank.new ≡ taken_in enter word b (given_up leave b (belts bank.old)) }
+    ensures { B.belts bank.new ≡ taken_in enter word b (given_up leave b (B.belts bank.old)) }
 {
     give_up(bank, b, leave);
     take_in(bank, b, enter, word);
@@ -65,7 +65,7 @@ fn move_belt<B: Bank>(bank: &mut B, b: usize, enter: bool, leave: bool, word: u8
 // Moves the first `n` belts, in number order, by the event bytes and the words.
 pub(crate) fn advance<B: Bank>(bank: &mut B, n: usize, words: &[u8], events: &[u8])
     requires { (n ≤ length words.now) × (2 * n ≤ length events.now) }
-    ensures { belts bank.new ≡ eachBelt (λ b. moved (slice_index events.now (2 * b) == 1) (slice_index events.now (2 * b + 1) == 1) (slice_index words.now b)) n (belts bank.old) }
+    ensures { B.belts bank.new ≡ eachBelt (λ b. moved (slice_index events.now (2 * b) == 1) (slice_index events.now (2 * b + 1) == 1) (slice_index words.now b)) n (B.belts bank.old) }
 {
     for b in 0..n {
         move_belt(
@@ -114,7 +114,7 @@ pub(crate) fn low_flops(nodes: &[Node]) -> [bool; 128]
 
 // Clears every belt.
 pub(crate) fn empty<B: Bank>(bank: &mut B)
-    ensures { belts bank.new ≡ map clearing (belts bank.old) }
+    ensures { B.belts bank.new ≡ map clearing (B.belts bank.old) }
 {
     for b in 0..bank.size() {
         bank.clear(b);

@@ -44,7 +44,7 @@ fn free_value<B: Bank>(
     numbers: &Numbers,
     source: Source,
 ) -> bool
-    ensures { result ≡ free_value (belts bank.now) flops.now sensors.now (number_in numbers.now source) source }
+    ensures { result ≡ free_value (B.belts bank.now) flops.now sensors.now (number_in numbers.now source) source }
 {
     match source {
         Source::Sensor => sensor(sensors, numbers.sensors),
@@ -86,7 +86,7 @@ fn line_value<B: Bank>(
     before: &[bool],
     node: Node,
 ) -> bool
-    ensures { result ≡ line_value (belts bank.now) flops.now sensors.now numbers.now before.now node }
+    ensures { result ≡ line_value (B.belts bank.now) flops.now sensors.now numbers.now before.now node }
 {
     match node {
         Node::Free(source) => free_value(bank, flops, sensors, numbers, source),
@@ -103,7 +103,7 @@ pub(crate) fn settle<B: Bank>(
     nodes: &[Node],
 ) -> [bool; 640]
     requires { Lawful nodes.now }
-    ensures { take (length nodes.now) result ≡ settled nodes.now (row_from (belts bank.now) flops.now sensors.now [] nodes.now) }
+    ensures { take (length nodes.now) result ≡ settled nodes.now (row_from (B.belts bank.now) flops.now sensors.now [] nodes.now) }
 {
     let mut wires = [false; 640];
     let mut numbers = Numbers::new();

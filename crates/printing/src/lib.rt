@@ -1,3 +1,5 @@
+#![tactic(auto)]
+
 mod list;
 mod page;
 mod refusal;

@@ -1,4 +1,6 @@
 // Lists and refusal lines, printed and compared.
+#![tactic(auto)]
+
 #[cfg(test)]
 mod tests {
     use printing::{print_list, print_refusal};

@@ -20,8 +20,8 @@ fn log_call<B: Bank>(
     i: usize,
 )
     requires { (i < length calls.now) × (i < length log.old) }
-    ensures log { log.new ≡ slice_set log.old i (performed sheets.now (view belts line.old) (slice_index_or calls.now i (Mount 0))).report }
-    ensures line { view belts line.new ≡ (performed sheets.now (view belts line.old) (slice_index_or calls.now i (Mount 0))).after }
+    ensures log { log.new ≡ slice_set log.old i (performed sheets.now (view B.belts line.old) (slice_index_or calls.now i (Mount 0))).report }
+    ensures line { view B.belts line.new ≡ (performed sheets.now (view B.belts line.old) (slice_index_or calls.now i (Mount 0))).after }
 {
     log[i] = perform(line, sheets, calls[i]);
 }
@@ -35,9 +35,9 @@ fn log_calls<B: Bank>(
     done: usize,
 )
     requires { (done ≤ length calls.now) × (done ≤ length log.old) }
-    ensures log { log.new ≡ reports sheets.now (view belts line.old) (take done calls.now) ++ drop done log.old }
-    ensures line { view belts line.new ≡ afterwards sheets.now (view belts line.old) (take done calls.now) }
-    ensures law { view belts line.old ≡ new_line (view belts line.old).bank → Kept (view belts line.new) (take done log.new) }
+    ensures log { log.new ≡ reports sheets.now (view B.belts line.old) (take done calls.now) ++ drop done log.old }
+    ensures line { view B.belts line.new ≡ afterwards sheets.now (view B.belts line.old) (take done calls.now) }
+    ensures law { view B.belts line.old ≡ new_line (view B.belts line.old).bank → Kept (view B.belts line.new) (take done log.new) }
 {
     for i in 0..done {
         log_call(line, sheets, calls, log, i);
@@ -53,9 +53,9 @@ pub fn drive<B: Bank>(
     log: &mut [Report],
 ) -> usize
     ensures many { result ≡ min (length calls.now) (length log.old) }
-    ensures log { log.new ≡ reports sheets.now (view belts line.old) (take result calls.now) ++ drop result log.old }
-    ensures line { view belts line.new ≡ afterwards sheets.now (view belts line.old) (take result calls.now) }
-    ensures law { view belts line.old ≡ new_line (view belts line.old).bank → Kept (view belts line.new) (take result log.new) }
+    ensures log { log.new ≡ reports sheets.now (view B.belts line.old) (take result calls.now) ++ drop result log.old }
+    ensures line { view B.belts line.new ≡ afterwards sheets.now (view B.belts line.old) (take result calls.now) }
+    ensures law { view B.belts line.old ≡ new_line (view B.belts line.old).bank → Kept (view B.belts line.new) (take result log.new) }
 {
     let done = calls.len().min(log.len());
     log_calls(line, sheets, calls, log, done);
@@ -72,9 +72,9 @@ pub fn run<B: Bank>(
     log: &mut [Report],
 ) -> (Line<B>, usize)
     ensures many { result.1 ≡ min (length calls.now) (length log.old) }
-    ensures log { log.new ≡ reports sheets.now (new_line (belts bank)) (take result.1 calls.now) ++ drop result.1 log.old }
-    ensures line { view belts result.0 ≡ afterwards sheets.now (new_line (belts bank)) (take result.1 calls.now) }
-    ensures law { Kept (view belts result.0) (take result.1 log.new) }
+    ensures log { log.new ≡ reports sheets.now (new_line (B.belts bank)) (take result.1 calls.now) ++ drop result.1 log.old }
+    ensures line { view B.belts result.0 ≡ afterwards sheets.now (new_line (B.belts bank)) (take result.1 calls.now) }
+    ensures law { Kept (view B.belts result.0) (take result.1 log.new) }
 {
     let mut line = Line::new(bank);
     let done = drive(&mut line, sheets, calls, log);

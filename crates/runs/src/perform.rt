@@ -42,7 +42,7 @@ fn ticked(answer: Result<(usize, usize), Fault>) -> Answer
 
 // Mounts sheet `k` of those handed over; past their end, the unfilled sheet.
 fn mount_at<B: Bank>(line: &mut Line<B>, sheets: &[Sheet], k: usize) -> Result<(), Fault>
-    ensures { record { answer = result; memory = []; after = view belts line.new } ≡ mount (view belts line.old) (sheet_at sheets.now k) }
+    ensures { record { answer = result; memory = []; after = view B.belts line.new } ≡ mount (view B.belts line.old) (sheet_at sheets.now k) }
 {
     if k < sheets.len() {
         line.mount(&sheets[k])
@@ -54,7 +54,7 @@ fn mount_at<B: Bank>(line: &mut Line<B>, sheets: &[Sheet], k: usize) -> Result<(
 // Ticks with the first of 64 zero bytes as event memory, `memory` of them or all.
 fn tick_into<B: Bank>(line: &mut Line<B>, sensors: &[u8], memory: usize, bytes: &mut [u8]) -> Answer
     requires { bytes.old ≡ replicate 64 0 }
-    ensures { record { report = record { answer = result; bytes = bytes.new }; after = view belts line.new } ≡ turn (λ p. Ticked p.0 p.1) (tick (view belts line.old) sensors.now (blank memory)) }
+    ensures { record { report = record { answer = result; bytes = bytes.new }; after = view B.belts line.new } ≡ turn (λ p. Ticked p.0 p.1) (tick (view B.belts line.old) sensors.now (blank memory)) }
 {
     let n = memory.min(64);
     ticked(line.tick(sensors, &mut bytes[0..n]))
@@ -62,7 +62,7 @@ fn tick_into<B: Bank>(line: &mut Line<B>, sensors: &[u8], memory: usize, bytes: 
 
 // A mounting, reported.
 fn perform_mount<B: Bank>(line: &mut Line<B>, sheets: &[Sheet], k: usize) -> Report
-    ensures { record { report = result; after = view belts line.new } ≡ turn (λ u. Done) (mount (view belts line.old) (sheet_at sheets.now k)) }
+    ensures { record { report = result; after = view B.belts line.new } ≡ turn (λ u. Done) (mount (view B.belts line.old) (sheet_at sheets.now k)) }
 {
     let answer = mount_at(line, sheets, k);
     report(done(answer))
@@ -70,7 +70,7 @@ fn perform_mount<B: Bank>(line: &mut Line<B>, sheets: &[Sheet], k: usize) -> Rep
 
 // A tick with an event memory of `memory` zero bytes, at most 64, reported.
 fn perform_tick<B: Bank>(line: &mut Line<B>, sensors: &[u8], memory: usize) -> Report
-    ensures { record { report = result; after = view belts line.new } ≡ turn (λ p. Ticked p.0 p.1) (tick (view belts line.old) sensors.now (blank memory)) }
+    ensures { record { report = result; after = view B.belts line.new } ≡ turn (λ p. Ticked p.0 p.1) (tick (view B.belts line.old) sensors.now (blank memory)) }
 {
     let mut bytes = [0; 64];
     let answer = tick_into(line, sensors, memory, &mut bytes);
@@ -79,7 +79,7 @@ fn perform_tick<B: Bank>(line: &mut Line<B>, sensors: &[u8], memory: usize) -> R
 
 // A clearing, reported.
 fn perform_clear<B: Bank>(line: &mut Line<B>) -> Report
-    ensures { record { report = result; after = view belts line.new } ≡ turn (λ u. Done) (clear (view belts line.old)) }
+    ensures { record { report = result; after = view B.belts line.new } ≡ turn (λ u. Done) (clear (view B.belts line.old)) }
 {
     let answer = line.clear();
     report(done(answer))
@@ -87,7 +87,7 @@ fn perform_clear<B: Bank>(line: &mut Line<B>) -> Report
 
 // Makes one call, and reports what it answered and what it left in its event memory.
 pub fn perform<B: Bank>(line: &mut Line<B>, sheets: &[Sheet], call: Call) -> Report
-    ensures { record { report = result; after = view belts line.new } ≡ performed sheets.now (view belts line.old) call.entry }
+    ensures { record { report = result; after = view B.belts line.new } ≡ performed sheets.now (view B.belts line.old) call.entry }
 {
     match call {
         Call::Mount(k) => perform_mount(line, sheets, k),

@@ -1,3 +1,5 @@
+#![tactic(auto)]
+
 pub mod class;
 pub mod fault;
 mod load;

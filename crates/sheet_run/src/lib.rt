@@ -1,2 +1,4 @@
+#![tactic(auto)]
+
 mod board;
 mod texts;

@@ -1,3 +1,5 @@
+#![tactic(auto)]
+
 pub mod adding;
 pub mod gates;
 pub mod laws;

@@ -1,3 +1,5 @@
 // Forms that are worked out and counted.
+#![tactic(auto)]
+
 #[cfg(test)]
 mod tests;
