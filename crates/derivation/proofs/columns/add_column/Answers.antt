@@ -3,4 +3,4 @@ use Rattle.derivation.proofs.Found.{one_more}
 use Rattle.derivation.proofs.columns.add_column.Goals as goal
 
 pub returns : goal.returns
-returns c = one_more (number_of c.args.set) _ _ _ _ _ c.requires.room c.requires.found c.requires.few c.add-term.ensures c.unwrap-or.ensures
+returns c = one_more (number_of c.args.set) _ _ _ _ _ c.requires.room c.requires.found c.requires.few c.add_term.ensures c.unwrap_or.ensures

@@ -7,16 +7,16 @@ use Rattle.derivation.proofs.Lines.{flows_many, flow_lent}
 use Rattle.derivation.proofs.Found.{gathered_on, overfull, all_gathered}
 use Rattle.derivation.proofs.columns.collect.Goals as goal
 
-pub returns-in-err-used : goal.returns-in-err-used
-returns-in-err-used c =
-    let p = err_from_is_err_and c.from-residual.result c.from-residual.ensures.1 in
+pub returns-in_err-used : goal.returns-in_err-used
+returns-in_err-used c =
+    let p = err_from_is_err_and c.from_residual.result c.from_residual.ensures.1 in
     let ns = c.args.nodes.now in
     let fs = forms_in c.args.forms.now in
     let n = c.args.belts in
     let b = c.loop-b.b in
     let work = c.flow-n.new.work in
     let flow = flow_lent ns fs n b c.flow-n.result work (omega arith) c.flow-n.ensures.form in
-    let t = c.in-err-used.ensures in
+    let t = c.in_err-used.ensures in
     rw (p.1, p.2) (t.0, overfull (flows_by ns fs n) _ c.loop-b.columns _ _ b (omega (arith, flows_many ns fs n)) c.loop-b.invariant.2 flow t.1)
 
 pub loop-b-preserved : goal.loop-b-preserved
@@ -27,10 +27,10 @@ loop-b-preserved c =
     let b = c.loop-b.b in
     let work = c.flow-n.new.work in
     let flow = flow_lent ns fs n b c.flow-n.result work (omega arith) c.flow-n.ensures.form in
-    let t = c.in-ok-used.ensures in
+    let t = c.in_ok-used.ensures in
     let inside : c.flow-n.result - 0 ≤ length work = omega (arith, c.flow-n.ensures.within) in
     let short : length (take (c.flow-n.result - 0) work) ≤ 1200 = omega (arith, length-take-le (c.flow-n.result - 0) work inside, c.flow-n.auto.work, c.loop-b.invariant.1, c.requires.room.1) in (
-      c.add-columns.auto.columns ∙ c.loop-b.invariant.0,
+      c.add_columns.auto.columns ∙ c.loop-b.invariant.0,
       c.flow-n.auto.work ∙ c.loop-b.invariant.1,
       gathered_on (flows_by ns fs n) _ _ _ _ b (omega (arith, flows_many ns fs n)) c.loop-b.invariant.2 flow _ short t.0 t.1,
     )

@@ -12,7 +12,7 @@ returns c =
     record {
       held =
           surely _ _ _ _ _
-          (worked_out and_form (λ a b. a && b) _ _ _ _ _ _ _ c.and-form.ensures (product_room_lem _ _ one.few other.few) (omega arith) one.easy other.easy same)
-          c.unwrap-or.ensures;
+          (worked_out and_form (λ a b. a && b) _ _ _ _ _ _ _ c.and_form.ensures (product_room_lem _ _ one.few other.few) (omega arith) one.easy other.easy same)
+          c.unwrap_or.ensures;
       small = subst (λ p. norm p < 2 ^ 62) same (product_norm _ _ one.easy other.easy);
     }

@@ -9,6 +9,6 @@ returns c =
     let one = c.line.ensures in
     let other = c.line-2.ensures in
     let first = c.entering-used.ensures in
-    let t = taken _ _ _ _ _ _ _ _ first.held.form first.held.bound (omega arith) first.small one.few other.few one.easy other.easy c.add-product.ensures c.unwrap-or.ensures in
+    let t = taken _ _ _ _ _ _ _ _ first.held.form first.held.bound (omega arith) first.small one.few other.few one.easy other.easy c.add_product.ensures c.unwrap_or.ensures in
     let f = flow_formed (forms_in c.args.forms.now) (ports_in c.args.ports) _ _ _ _ t one.same other.same in
     record { within = f.within; form = f.form }

@@ -8,7 +8,7 @@ returns c =
     let ns = c.args.nodes.now in
     let p = is_part c.args.part c.args.b in
     let line = lowest_line p 0 ns in
-    c.unwrap-or.ensures ∙ ap (λ o. unwrap_or o (length ns)) c.find-part.ensures ∙ (rw (zero-add, zero-add) at line)
+    c.unwrap_or.ensures ∙ ap (λ o. unwrap_or o (length ns)) c.find_part.ensures ∙ (rw (zero-add, zero-add) at line)
 
-pub overflow-cast-result : goal.overflow-cast-result
-overflow-cast-result c = omega (arith, returns c, line_within (is_part c.args.part c.args.b) c.args.nodes.now)
+pub overflow_cast-result : goal.overflow_cast-result
+overflow_cast-result c = omega (arith, returns c, line_within (is_part c.args.part c.args.b) c.args.nodes.now)

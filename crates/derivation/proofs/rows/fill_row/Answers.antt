@@ -7,10 +7,10 @@ use Rattle.derivation.proofs.rows.fill_row.Goals as goal
 pub loop-j-preserved : goal.loop-j-preserved
 loop-j-preserved c =
     let ts = c.args.flow.now in
-    let z = c.next-coefficient-coefficient.result.0 in
+    let z = c.next_coefficient-coefficient.result.0 in
     let f : SFits w64 z = search rules in
-    let e = c.next-coefficient-coefficient.ensures in
-    row_more c.args.columns.now c.loop-j.numbers c.args.at (form_in (drop c.loop-j.done ts)) (form_in (drop c.next-coefficient-coefficient.result.1 ts)) c.loop-j.j _ (omega arith) (omega arith) (to_z-of_z w64 z f ∙ e.coefficient) e.left
+    let e = c.next_coefficient-coefficient.ensures in
+    row_more c.args.columns.now c.loop-j.numbers c.args.at (form_in (drop c.loop-j.done ts)) (form_in (drop c.next_coefficient-coefficient.result.1 ts)) c.loop-j.j _ (omega arith) (omega arith) (to_z-of_z w64 z f ∙ e.coefficient) e.left
     ∙ c.loop-j.invariant
 
 pub returns : goal.returns

@@ -10,8 +10,8 @@ use Rattle.derivation.proofs.rows.fill_rows.Goals as goal
 pub flow-n-requires : goal.flow-n-requires
 flow-n-requires c = record { lines = c.requires.lines; room = omega (arith, c.requires.room, c.loop-b.invariant.0) }
 
-pub fill-row-requires : goal.fill-row-requires
-fill-row-requires c =
+pub fill_row-requires : goal.fill_row-requires
+fill_row-requires c =
     let m = length c.args.columns.now in
     omega (arith, row_within c.loop-b.b c.args.belts m (omega arith), mul-le c.args.belts m 32 256 c.requires.few.0 c.requires.few.1, c.loop-b.auto.numbers, c.requires.place)
 
@@ -24,7 +24,7 @@ loop-b-preserved c =
     let b = c.loop-b.b in
     let flow = flow_lent ns fs c.args.belts b c.flow-n.result work (omega arith) c.flow-n.ensures.form in (
       c.flow-n.auto.work ∙ c.loop-b.invariant.0,
-      rows_more (columns_in cs) (flows_by ns fs c.args.belts) (length cs) b _ _ _ (omega (arith, flows_many ns fs c.args.belts)) flow c.fill-row.ensures ∙ c.loop-b.invariant.1,
+      rows_more (columns_in cs) (flows_by ns fs c.args.belts) (length cs) b _ _ _ (omega (arith, flows_many ns fs c.args.belts)) flow c.fill_row.ensures ∙ c.loop-b.invariant.1,
     )
 
 pub shape-of-work : goal.shape-of-work

@@ -8,5 +8,5 @@ returns-in-Lead g c =
     let m = g.T.Number in
     let a = c.args in
     let l : c.in-Lead.j < length a.row.now - a.n = subst (λ e. Inside e (length a.row.now - a.n)) c.in-Lead.is c.requires.inside in
-    c.is-below-zero.ensures ∙ ap m.kind.below (at_read m.kind m.value a.row.now (a.n + c.in-Lead.j) _ (omega arith) c.index-row-n.is)
+    c.is_below_zero.ensures ∙ ap m.kind.below (at_read m.kind m.value a.row.now (a.n + c.in-Lead.j) _ (omega arith) c.index-row-n.is)
     ∙ ap (λ e. ends_below m.kind a.n e (map m.value a.row.now)) (sym c.in-Lead.is)

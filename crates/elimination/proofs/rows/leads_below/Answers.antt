@@ -13,16 +13,16 @@ loop-i-init g c =
 pub loop-i-preserved : goal.loop-i-preserved
 loop-i-preserved g c =
     let m = g.T.Number in
-    sym (below_more m.kind m.value c.args.n c.args.row.now c.loop-i.i _ true (omega arith) (omega arith) c.index-row-i.is (sym c.if-not-is-zero.ensures)) ∙ c.loop-i.invariant
+    sym (below_more m.kind m.value c.args.n c.args.row.now c.loop-i.i _ true (omega arith) (omega arith) c.index-row-i.is (sym c.if-not-is_zero.ensures)) ∙ c.loop-i.invariant
 
-pub returns-then-not-is-zero : goal.returns-then-not-is-zero
-returns-then-not-is-zero g c =
+pub returns-then-not-is_zero : goal.returns-then-not-is_zero
+returns-then-not-is_zero g c =
     let m = g.T.Number in
     let i = c.index-row-i.is in
-    let j = c.index-row-i-then-not-is-zero.is in
+    let j = c.index-row-i-then-not-is_zero.is in
     let same = get_or_read c.args.row.now c.loop-i.i _ (omega arith) j c.index-row-i.result ∙ sym i in
-    c.is-below-zero.ensures ∙ ap (λ x. m.kind.below (m.value x)) same
-    ∙ sym (below_more m.kind m.value c.args.n c.args.row.now c.loop-i.i _ false (omega arith) (omega arith) i (sym c.if-not-is-zero.ensures)) ∙ c.loop-i.invariant
+    c.is_below_zero.ensures ∙ ap (λ x. m.kind.below (m.value x)) same
+    ∙ sym (below_more m.kind m.value c.args.n c.args.row.now c.loop-i.i _ false (omega arith) (omega arith) i (sym c.if-not-is_zero.ensures)) ∙ c.loop-i.invariant
 
 pub returns : goal.returns
 returns g c =

@@ -7,7 +7,7 @@ use Rattle.elimination.proofs.rows.row_divisor.Goals as goal
 pub loop-x-init : goal.loop-x-init
 loop-x-init g c =
     let m = g.T.Number in
-    ap (λ s. divisor_from m.kind s (map m.wide c.args.row.now)) c.wide-zero-d.ensures
+    ap (λ s. divisor_from m.kind s (map m.wide c.args.row.now)) c.wide_zero-d.ensures
 
 pub loop-x-preserved : goal.loop-x-preserved
 loop-x-preserved g c =

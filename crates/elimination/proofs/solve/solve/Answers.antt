@@ -4,15 +4,15 @@ use Rattle.elimination.proofs.Written.{fits, part_length, all_rows, all_balances
 use Rattle.elimination.proofs.Readback.{exact}
 use Rattle.elimination.proofs.solve.solve.Goals as goal
 
-pub returns-then-not-sizes-fit : goal.returns-then-not-sizes-fit
-returns-then-not-sizes-fit g c =
+pub returns-then-not-sizes_fit : goal.returns-then-not-sizes_fit
+returns-then-not-sizes_fit g c =
     let a = c.args in
-    record { result = solved_unfit g.T.Number.kind a.n a.m a.coefficients.now a.weights.now c.if-not-sizes-fit.ensures; exact = tt }
+    record { result = solved_unfit g.T.Number.kind a.n a.m a.coefficients.now a.weights.now c.if-not-sizes_fit.ensures; exact = tt }
 
 pub eliminate-requires : goal.eliminate-requires
 eliminate-requires g c =
     let a = c.args in
-    let f = fits a.n a.m (length a.coefficients.now) (length a.weights.now) c.if-not-sizes-fit.ensures in
+    let f = fits a.n a.m (length a.coefficients.now) (length a.weights.now) c.if-not-sizes_fit.ensures in
     let l : a.n + a.m ≤ 288 = omega (arith, f.few, f.narrow) in
     record {
       full = f.full;
@@ -23,10 +23,10 @@ eliminate-requires g c =
       place = omega (arith, all_balances a.n f.few);
     }
 
-pub write-weights-requires : goal.write-weights-requires
-write-weights-requires g c =
+pub write_weights-requires : goal.write_weights-requires
+write_weights-requires g c =
     let a = c.args in
-    let f = fits a.n a.m (length a.coefficients.now) (length a.weights.now) c.if-not-sizes-fit.ensures in
+    let f = fits a.n a.m (length a.coefficients.now) (length a.weights.now) c.if-not-sizes_fit.ensures in
     let l : c.in-Ok.k * a.n ≤ a.n * a.n = mul-le-mul_right a.n c.in-Ok.ensures.0 in
     record { room = omega (arith, f.room); full = omega (arith, all_balances a.n f.few) }
 
@@ -34,11 +34,11 @@ pub returns-in-Ok : goal.returns-in-Ok
 returns-in-Ok g c =
     let v = g.T.Number in
     let a = c.args in
-    let f = fits a.n a.m (length a.coefficients.now) (length a.weights.now) c.if-not-sizes-fit.ensures in
+    let f = fits a.n a.m (length a.coefficients.now) (length a.weights.now) c.if-not-sizes_fit.ensures in
     let l : c.in-Ok.k * a.n ≤ a.n * a.n = mul-le-mul_right a.n c.in-Ok.ensures.0 in
-    let e = answered_rows v.kind v.value a.n c.in-Ok.k c.eliminate.new.balances a.weights.now c.write-weights.new.weights (omega (arith, all_balances a.n f.few)) c.write-weights.ensures
+    let e = answered_rows v.kind v.value a.n c.in-Ok.k c.eliminate.new.balances a.weights.now c.write_weights.new.weights (omega (arith, all_balances a.n f.few)) c.write_weights.ensures
     ∙ ap (answered v.kind a.weights.now) (sym c.in-Ok.ensures.1)
-    ∙ solved_fit v.kind a.n a.m a.coefficients.now a.weights.now c.if-not-sizes-fit.ensures in
+    ∙ solved_fit v.kind a.n a.m a.coefficients.now a.weights.now c.if-not-sizes_fit.ensures in
     record { result = e; exact = exact g.met.T.Number.lawful a.n a.m a.coefficients.now a.weights.now _ _ e }
 
 pub returns-in-Err : goal.returns-in-Err
@@ -46,6 +46,6 @@ returns-in-Err g c =
     let v = g.T.Number in
     let a = c.args in
     record {
-      result = ap (answered v.kind a.weights.now) (sym c.in-Err.ensures) ∙ solved_fit v.kind a.n a.m a.coefficients.now a.weights.now c.if-not-sizes-fit.ensures;
+      result = ap (answered v.kind a.weights.now) (sym c.in-Err.ensures) ∙ solved_fit v.kind a.n a.m a.coefficients.now a.weights.now c.if-not-sizes_fit.ensures;
       exact = tt;
     }

@@ -4,14 +4,14 @@ use Rattle.terms.proofs.Recorded.{unread}
 use Rattle.forms.proofs.Limits.{large_here, small_here, none_large}
 use Rattle.forms.proofs.gates.is_large.Goals as goal
 
-pub returns-then-is-past : goal.returns-then-is-past
-returns-then-is-past c =
+pub returns-then-is_past : goal.returns-then-is_past
+returns-then-is_past c =
     let ts = c.args.form.now in
     let i = c.loop-term.term-index in
     let z = (get_or ts i unread).coefficient in
     let f : SFits w64 z = search rules in
-    let e = c.unsigned-abs.ensures.value ∙ ap nat_abs (to_z-of_z w64 z f) in
-    sym (sym c.loop-term.invariant ∙ large_here ts i _ c.loop-term-test.true e (sym c.if-is-past.ensures))
+    let e = c.unsigned_abs.ensures.value ∙ ap nat_abs (to_z-of_z w64 z f) in
+    sym (sym c.loop-term.invariant ∙ large_here ts i _ c.loop-term-test.true e (sym c.if-is_past.ensures))
 
 pub loop-term-preserved : goal.loop-term-preserved
 loop-term-preserved c =
@@ -19,8 +19,8 @@ loop-term-preserved c =
     let i = c.loop-term.term-index in
     let z = (get_or ts i unread).coefficient in
     let f : SFits w64 z = search rules in
-    let e = c.unsigned-abs.ensures.value ∙ ap nat_abs (to_z-of_z w64 z f) in
-    sym (small_here ts i _ c.loop-term-test.true e (sym c.if-is-past.ensures)) ∙ c.loop-term.invariant
+    let e = c.unsigned_abs.ensures.value ∙ ap nat_abs (to_z-of_z w64 z f) in
+    sym (small_here ts i _ c.loop-term-test.true e (sym c.if-is_past.ensures)) ∙ c.loop-term.invariant
 
 pub returns : goal.returns
 returns c = sym (sym c.loop-term.invariant ∙ none_large c.args.form.now c.loop-term.term-index c.loop-term-test.false)

@@ -14,7 +14,7 @@ pub loop-node-preserved : goal.loop-node-preserved
 loop-node-preserved c =
     let ns = c.args.nodes.now in
     let l = c.loop-node in
-    elim c.match-offer-and-take.branch [
+    elim c.match-offer_and_take.branch [
       | in-Some w ↦
           let e = sym w.in-Some.ensures in
           let lt = place_left offer_and_take ns l.node-index l.belts l.n l.invariant.1 (omega arith) _ e in

@@ -17,19 +17,19 @@ loop-b-preserved g c =
     let b = c.loop-b.b in
     let enter : ℕ → Bool = enters ns ws (λ c. roomy (numbered bank c)) in
     let leave : ℕ → Bool = leaves ns ws (λ c. is_some (head_of (numbered bank c))) in
-    let told = c.belt-wires-n.result in
-    let events : c.belt-events-enters.result ≡ (enter b, leave b) =
-    c.belt-events-enters.ensures
+    let told = c.belt_wires-n.result in
+    let events : c.belt_events-enters.result ≡ (enter b, leave b) =
+    c.belt_events-enters.ensures
     ∙ ap (λ q. ((get_or ws q.0 false && roomy (numbered bank b)), (get_or ws q.1 false && is_some (head_of (numbered bank b)))))
-    (c.pair-at.ensures ∙ ap (λ ps. get_or ps b (0, 0)) (ap (λ k. take k told.0) (sub-zero told.1) ∙ c.belt-wires-n.ensures.wires)) in
+    (c.pair_at.ensures ∙ ap (λ ps. get_or ps b (0, 0)) (ap (λ k. take k told.0) (sub-zero told.1) ∙ c.belt_wires-n.ensures.wires)) in
     let in' = ap (λ q. bit q.0) events in
     let out = ap (λ q. bit q.1) events in
     let inv = c.loop-b.invariant in (
-      bytes_on enter leave b _ _ c.loop-b.events c.args.events.now (omega (arith, c.requires.room, c.belt-wires-n.ensures.count)) inv.0 (c.from.ensures ∙ in') (c.from-in-loop-b.ensures ∙ out),
+      bytes_on enter leave b _ _ c.loop-b.events c.args.events.now (omega (arith, c.requires.room, c.belt_wires-n.ensures.count)) inv.0 (c.from.ensures ∙ in') (c.from-in-loop-b.ensures ∙ out),
       many_on enter b _ _ inv.1 (c.from-entered.ensures ∙ in'),
       many_on leave b _ _ inv.2 (c.from-left.ensures ∙ out),
-      omega (arith, inv.3, c.from-entered.ensures, byte_le c.belt-events-enters.result.0),
-      omega (arith, inv.4, c.from-left.ensures, byte_le c.belt-events-enters.result.1),
+      omega (arith, inv.3, c.from-entered.ensures, byte_le c.belt_events-enters.result.0),
+      omega (arith, inv.4, c.from-left.ensures, byte_le c.belt_events-enters.result.1),
     )
 
 pub returns : goal.returns
@@ -39,7 +39,7 @@ returns g c =
     let ws = c.args.wires.now in
     let enter : ℕ → Bool = enters ns ws (λ c. roomy (numbered bank c)) in
     let leave : ℕ → Bool = leaves ns ws (λ c. is_some (head_of (numbered bank c))) in
-    let n : c.loop-b.b ≡ belt_count ns = omega (arith, c.belt-wires-n.ensures.count) in
+    let n : c.loop-b.b ≡ belt_count ns = omega (arith, c.belt_wires-n.ensures.count) in
     let inv = c.loop-b.invariant in
     record {
       bytes = inv.0 ∙ ap (λ k. event_bytes enter leave k ++ drop (2 * k) c.args.events.now) n;

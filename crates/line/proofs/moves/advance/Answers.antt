@@ -12,4 +12,4 @@ loop-b-preserved g c =
     let before : List Model = g.B.Bank.belts c.loop-b.bank in
     let enter : ℕ → Bool = λ k. eqb (get_or events (2 * k) 0) 1 in
     let leave : ℕ → Bool = λ k. eqb (get_or events (2 * k + 1) 0) 1 in
-    each_on (λ k. moved (enter k) (leave k) (get_or words k 0)) b _ before _ c.loop-b.invariant (c.move-belt.ensures ∙ moved_once (enter b) (leave b) (get_or words b 0) b before)
+    each_on (λ k. moved (enter k) (leave k) (get_or words k 0)) b _ before _ c.loop-b.invariant (c.move_belt.ensures ∙ moved_once (enter b) (leave b) (get_or words b 0) b before)

@@ -17,7 +17,7 @@ loop-node-preserved c =
     let ns = c.args.nodes.now in
     let ws = c.args.wires.now in
     let l = c.loop-node in
-    elim c.match-next-value.branch [
+    elim c.match-next_value.branch [
       | in-Some w ↦
           let e = sym w.in-Some.ensures in
           let lt = place_left (next_of ws) ns l.node-index l.flops l.k l.invariant.1 (omega arith) _ e in

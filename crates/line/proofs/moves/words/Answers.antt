@@ -12,8 +12,8 @@ loop-i-init c =
     let ns = c.args.nodes.now in
     (refl, λ b _. none_counted b ∙ sym (at_drop_all (λ ms. word_of c.args.wires.now (bits_of b ms)) ns (length ns) (omega arith)))
 
-pub enter-bit-requires : goal.enter-bit-requires
-enter-bit-requires c =
+pub enter_bit-requires : goal.enter_bit-requires
+enter_bit-requires c =
     let l = c.loop-i in
     small_places l.words l.invariant.0 (λ b h. omega (arith, l.invariant.1 b h, word_small c.args.wires.now c.args.nodes.now b l.i (few_bits c.args.nodes.now c.requires b)))
 
@@ -21,6 +21,6 @@ pub loop-i-preserved : goal.loop-i-preserved
 loop-i-preserved c =
     let l = c.loop-i in
     let size = l.invariant.0 in (
-      c.enter-bit.auto.words ∙ size,
-      λ b h. word_on c.args.wires.now c.args.nodes.now b l.i _ _ c.loop-i-test.true l.auto.i (l.invariant.1 b h) (c.enter-bit.ensures b (omega arith)),
+      c.enter_bit.auto.words ∙ size,
+      λ b h. word_on c.args.wires.now c.args.nodes.now b l.i _ _ c.loop-i-test.true l.auto.i (l.invariant.1 b h) (c.enter_bit.ensures b (omega arith)),
     )

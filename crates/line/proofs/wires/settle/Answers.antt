@@ -28,7 +28,7 @@ loop-i-preserved g c =
     let known = c.loop-i.invariant.1 in (
       length-set ws i _ ∙ c.loop-i.invariant.0,
       numbered_on ns i _ h known _ c.add.ensures,
-      settled_on (row_from bank flops sensors [] ns) ns i ws _ h (omega arith) c.loop-i.invariant.2 (c.line-value.ensures ∙ line_value_is bank flops sensors ns i _ _ (g.met.B.Bank.sized c.args.bank.now).1 h known),
+      settled_on (row_from bank flops sensors [] ns) ns i ws _ h (omega arith) c.loop-i.invariant.2 (c.line_value.ensures ∙ line_value_is bank flops sensors ns i _ _ (g.met.B.Bank.sized c.args.bank.now).1 h known),
     )
 
 pub returns : goal.returns

@@ -3,17 +3,17 @@ use Rattle.std.proofs.lemmas.List.{length-append}
 use Rattle.printing.proofs.Sizes.{fits, names_room, rows_room}
 use Rattle.printing.proofs.list.list_page.Goals as goal
 
-pub push-names-requires : goal.push-names-requires
-push-names-requires c =
+pub push_names-requires : goal.push_names-requires
+push_names-requires c =
     let a = c.args in
     let f = fits a.belts a.balances a.weights.now c.requires in
     record { few = f.few; room = omega (arith, ap length c.new-page.ensures, names_room a.belts a.balances a.weights.now f) }
 
-pub push-rows-requires : goal.push-rows-requires
-push-rows-requires c =
+pub push_rows-requires : goal.push_rows-requires
+push_rows-requires c =
     let a = c.args in
     let f = fits a.belts a.balances a.weights.now c.requires in
     record {
       full = f.full;
-      room = omega (arith, ap length c.new-page.ensures, simp length-append at (ap length c.push-names.ensures), names_room a.belts a.balances a.weights.now f, rows_room a.belts a.balances a.weights.now f);
+      room = omega (arith, ap length c.new-page.ensures, simp length-append at (ap length c.push_names.ensures), names_room a.belts a.balances a.weights.now f, rows_room a.belts a.balances a.weights.now f);
     }

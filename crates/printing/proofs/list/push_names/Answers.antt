@@ -8,28 +8,28 @@ use Rattle.printing.proofs.list.push_names.Goals as goal
 pub loop-belt-init : goal.loop-belt-init
 loop-belt-init c = ap (λ x. text_on c.args.page.now ++ x) (names_whole c.args.belts)
 
-pub push-gap-requires : goal.push-gap-requires
-push-gap-requires c =
+pub push_gap-requires : goal.push_gap-requires
+push_gap-requires c =
     let l = c.loop-belt in
     let line = line_of (map name_of (range_with_len 0 c.args.belts)) in
     room_for_gap (text_on c.args.page.now) line (text_on l.page) l.belt c.requires.room _ l.invariant (names_left l.belt c.args.belts (omega arith))
 
-pub push-name-requires : goal.push-name-requires
-push-name-requires c =
+pub push_name-requires : goal.push_name-requires
+push_name-requires c =
     let l = c.loop-belt in
     let line = line_of (map name_of (range_with_len 0 c.args.belts)) in
     record {
       small = omega arith;
-      room = room_for_word (text_on c.args.page.now) line (text_on l.page) l.belt c.requires.room _ l.invariant (names_left l.belt c.args.belts (omega arith)) _ c.push-gap.ensures;
+      room = room_for_word (text_on c.args.page.now) line (text_on l.page) l.belt c.requires.room _ l.invariant (names_left l.belt c.args.belts (omega arith)) _ c.push_gap.ensures;
     }
 
 pub loop-belt-preserved : goal.loop-belt-preserved
 loop-belt-preserved c =
     let l = c.loop-belt in
     let line = line_of (map name_of (range_with_len 0 c.args.belts)) in
-    word_after (text_on c.args.page.now) line (text_on l.page) l.belt c.requires.room _ l.invariant (names_left l.belt c.args.belts (omega arith)) _ _ c.push-gap.ensures c.push-name.ensures
+    word_after (text_on c.args.page.now) line (text_on l.page) l.belt c.requires.room _ l.invariant (names_left l.belt c.args.belts (omega arith)) _ _ c.push_gap.ensures c.push_name.ensures
 
-pub end-line-requires : goal.end-line-requires
-end-line-requires c =
+pub end_line-requires : goal.end_line-requires
+end_line-requires c =
     let l = c.loop-belt in
     room_for_end (text_on c.args.page.now) (line_of (map name_of (range_with_len 0 c.args.belts))) (text_on l.page) l.belt c.requires.room _ l.invariant

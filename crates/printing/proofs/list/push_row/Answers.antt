@@ -10,31 +10,31 @@ use Rattle.printing.proofs.list.push_row.Goals as goal
 pub loop-i-init : goal.loop-i-init
 loop-i-init c = ap (λ x. text_on c.args.page.now ++ x) (sym (line_rest (map signed_decimal c.args.row.now)))
 
-pub push-gap-requires : goal.push-gap-requires
-push-gap-requires c =
+pub push_gap-requires : goal.push_gap-requires
+push_gap-requires c =
     let l = c.loop-i in
     let row = c.args.row.now in
     let z = get_or row l.i (pos 0) in
     room_for_gap (text_on c.args.page.now) (row_text row) (text_on l.page) l.i c.requires _ l.invariant (weights_left l.i row z refl (omega arith))
 
-pub push-weight-requires : goal.push-weight-requires
-push-weight-requires c =
+pub push_weight-requires : goal.push_weight-requires
+push_weight-requires c =
     let l = c.loop-i in
     let row = c.args.row.now in
     let fits : SFits w32 (get_or row l.i (pos 0)) = search rules in
-    room_for_word (text_on c.args.page.now) (row_text row) (text_on l.page) l.i c.requires _ l.invariant (weights_left l.i row _ (to_z-of_z w32 (get_or row l.i (pos 0)) fits) (omega arith)) _ c.push-gap.ensures
+    room_for_word (text_on c.args.page.now) (row_text row) (text_on l.page) l.i c.requires _ l.invariant (weights_left l.i row _ (to_z-of_z w32 (get_or row l.i (pos 0)) fits) (omega arith)) _ c.push_gap.ensures
 
 pub loop-i-preserved : goal.loop-i-preserved
 loop-i-preserved c =
     let l = c.loop-i in
     let row = c.args.row.now in
     let fits : SFits w32 (get_or row l.i (pos 0)) = search rules in
-    word_after (text_on c.args.page.now) (row_text row) (text_on l.page) l.i c.requires _ l.invariant (weights_left l.i row _ (to_z-of_z w32 (get_or row l.i (pos 0)) fits) (omega arith)) _ _ c.push-gap.ensures c.push-weight.ensures
+    word_after (text_on c.args.page.now) (row_text row) (text_on l.page) l.i c.requires _ l.invariant (weights_left l.i row _ (to_z-of_z w32 (get_or row l.i (pos 0)) fits) (omega arith)) _ _ c.push_gap.ensures c.push_weight.ensures
 
-pub end-line-requires : goal.end-line-requires
-end-line-requires c = let l = c.loop-i in room_for_end (text_on c.args.page.now) (row_text c.args.row.now) (text_on l.page) l.i c.requires _ l.invariant
+pub end_line-requires : goal.end_line-requires
+end_line-requires c = let l = c.loop-i in room_for_end (text_on c.args.page.now) (row_text c.args.row.now) (text_on l.page) l.i c.requires _ l.invariant
 
 pub returns : goal.returns
 returns c =
     let l = c.loop-i in
-    c.end-line.ensures ∙ sym (at_drop_all (λ xs. text_on l.page ++ rest_of l.i (map signed_decimal xs)) c.args.row.now l.i (omega arith)) ∙ l.invariant
+    c.end_line.ensures ∙ sym (at_drop_all (λ xs. text_on l.page ++ rest_of l.i (map signed_decimal xs)) c.args.row.now l.i (omega arith)) ∙ l.invariant

@@ -5,21 +5,21 @@ use Rattle.printing.specs.Printing.{row_text, rows_of}
 use Rattle.printing.proofs.Lines.{row_within, room_for_row, row_after}
 use Rattle.printing.proofs.list.push_rows.Goals as goal
 
-pub split-at-requires : goal.split-at-requires
-split-at-requires c = (row_within c.args.belts c.args.balances c.loop.counter c.loop.rest.now (omega arith) c.loop.invariant.0).0
+pub split_at-requires : goal.split_at-requires
+split_at-requires c = (row_within c.args.belts c.args.balances c.loop.counter c.loop.rest.now (omega arith) c.loop.invariant.0).0
 
-pub push-row-requires : goal.push-row-requires
-push-row-requires c =
+pub push_row-requires : goal.push_row-requires
+push_row-requires c =
     let a = c.args in
     room_for_row a.belts a.balances c.loop.counter c.loop.rest.now (omega arith)
     (text_on a.page.now) (flat_map row_text (rows_of a.belts a.balances a.weights.now)) (text_on c.loop.page) c.loop.invariant.1
-    c.split-at.result.0.now c.split-at.ensures.front c.requires.room
+    c.split_at.result.0.now c.split_at.ensures.front c.requires.room
 
 pub loop-preserved : goal.loop-preserved
 loop-preserved c =
     let a = c.args in (
-      omega (arith, (row_within a.belts a.balances c.loop.counter c.loop.rest.now (omega arith) c.loop.invariant.0).1, c.split-at.ensures.back_len),
+      omega (arith, (row_within a.belts a.balances c.loop.counter c.loop.rest.now (omega arith) c.loop.invariant.0).1, c.split_at.ensures.back_len),
       row_after a.belts a.balances c.loop.counter c.loop.rest.now (omega arith)
           (text_on a.page.now) (flat_map row_text (rows_of a.belts a.balances a.weights.now)) (text_on c.loop.page) c.loop.invariant.1
-          (text_on c.push-row.new.page) c.split-at.result.0.now c.split-at.result.1.now c.split-at.ensures.front c.split-at.ensures.back c.push-row.ensures,
+          (text_on c.push_row.new.page) c.split_at.result.0.now c.split_at.result.1.now c.split_at.ensures.front c.split_at.ensures.back c.push_row.ensures,
     )

@@ -15,8 +15,8 @@ loop-i-preserved g c =
     let i = c.loop-i.i in
     let lt : i < length cs = omega (arith, c.requires.0) in
     let some : i < length c.args.log.now = omega (arith, c.requires.1) in (
-      c.log-call.ensures.log ∙ ap (λ (z : State). set log i (performed sheets z (get_or cs i (Mount 0))).report) c.loop-i.invariant.1 ∙ log_on sheets s cs log c.args.log.now i (Mount 0) lt some c.loop-i.invariant.0,
-      c.log-call.ensures.line ∙ ap (λ (z : State). (performed sheets z (get_or cs i (Mount 0))).after) c.loop-i.invariant.1 ∙ line_on sheets s cs i (Mount 0) lt,
+      c.log_call.ensures.log ∙ ap (λ (z : State). set log i (performed sheets z (get_or cs i (Mount 0))).report) c.loop-i.invariant.1 ∙ log_on sheets s cs log c.args.log.now i (Mount 0) lt some c.loop-i.invariant.0,
+      c.log_call.ensures.line ∙ ap (λ (z : State). (performed sheets z (get_or cs i (Mount 0))).after) c.loop-i.invariant.1 ∙ line_on sheets s cs i (Mount 0) lt,
     )
 
 pub returns : goal.returns

@@ -12,12 +12,12 @@ returns g c =
     let sheets = c.args.sheets.now in
     let os = c.args.orders.now in
     let before = c.args.log.now in
-    let log = c.log-orders.new.log in
+    let log = c.log_orders.new.log in
     let n = c.min-done.result in
     let few : n ≤ length os = omega (arith, c.min-done.ensures) in
     record {
       many = c.min-done.ensures;
-      log = log_is sheets s t one two c.new-first.ensures c.new-second.ensures os before log n few c.log-orders.ensures.log;
-      first = first_alone sheets s t one two c.new-first.ensures c.new-second.ensures os before log n few c.log-orders.ensures.log (λ b. (g.met.A.Bank.small c.args.one b).0) _ c.log-orders.ensures.first;
-      second = second_alone sheets s t one two c.new-first.ensures c.new-second.ensures os before log n few c.log-orders.ensures.log (λ b. (g.met.C.Bank.small c.args.two b).0) _ c.log-orders.ensures.second;
+      log = log_is sheets s t one two c.new-first.ensures c.new-second.ensures os before log n few c.log_orders.ensures.log;
+      first = first_alone sheets s t one two c.new-first.ensures c.new-second.ensures os before log n few c.log_orders.ensures.log (λ b. (g.met.A.Bank.small c.args.one b).0) _ c.log_orders.ensures.first;
+      second = second_alone sheets s t one two c.new-first.ensures c.new-second.ensures os before log n few c.log_orders.ensures.log (λ b. (g.met.C.Bank.small c.args.two b).0) _ c.log_orders.ensures.second;
     }

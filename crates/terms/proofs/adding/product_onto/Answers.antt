@@ -7,8 +7,8 @@ use Rattle.terms.proofs.Fitting.{product_parts}
 use Rattle.terms.proofs.Norms.{twice_light}
 use Rattle.terms.proofs.adding.product_onto.Goals as goal
 
-pub put-product-requires : goal.put-product-requires
-put-product-requires c =
+pub put_product-requires : goal.put_product-requires
+put_product-requires c =
     let k = c.args.factor in
     let A = norm (form_in c.args.one.now) in
     let B = norm (form_in c.args.other.now) in

@@ -6,8 +6,8 @@ use Rattle.terms.specs.Records.{form_in}
 use Rattle.terms.proofs.Fitting.{scaled_parts}
 use Rattle.terms.proofs.adding.scaled_onto.Goals as goal
 
-pub put-scaled-requires : goal.put-scaled-requires
-put-scaled-requires c =
+pub put_scaled-requires : goal.put_scaled-requires
+put_scaled-requires c =
     let k = c.args.factor in
     let h = scaled_parts c.args.work.now c.args.used k c.args.form.now c.requires in
     let m = mul-le (nat_abs k) (norm (form_in c.args.form.now)) 2 (2 ^ 30) h.2 (omega arith) in

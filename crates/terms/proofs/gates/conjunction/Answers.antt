@@ -7,8 +7,8 @@ use Rattle.terms.proofs.Norms.{twice_light}
 use Rattle.terms.proofs.Recorded.{onward}
 use Rattle.terms.proofs.gates.conjunction.Goals as goal
 
-pub put-product-requires : goal.put-product-requires
-put-product-requires c =
+pub put_product-requires : goal.put_product-requires
+put_product-requires c =
     let A = c.args.one.now in
     let B = c.args.other.now in
     let h = gate_parts (length A * length B) c.args.work.now A B c.requires in
@@ -21,6 +21,6 @@ returns c =
     let P = form_in c.args.one.now in
     let Q = form_in c.args.other.now in
     let n = length c.args.one.now * length c.args.other.now in
-    let held : Held n (and_form P Q) W c.put-product.new.work c.put-product.result
-    = onward (0 + n) n c.put-product.result (and_form P Q) (and_form P Q) W c.put-product.new.work W c.put-product.ensures refl (omega arith) refl in
+    let held : Held n (and_form P Q) W c.put_product.new.work c.put_product.result
+    = onward (0 + n) n c.put_product.result (and_form P Q) (and_form P Q) W c.put_product.new.work W c.put_product.ensures refl (omega arith) refl in
     (held, subst (Gated (λ a b. a && b) P Q) (sym held.form) (and_gated P Q))

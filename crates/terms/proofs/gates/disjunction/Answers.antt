@@ -7,4 +7,4 @@ pub returns : goal.returns
 returns c =
     let P = form_in c.args.one.now in
     let Q = form_in c.args.other.now in
-    (c.sum-and-product.ensures, subst (Gated (λ a b. a || b) P Q) (sym c.sum-and-product.ensures.form) (or_gated P Q))
+    (c.sum_and_product.ensures, subst (Gated (λ a b. a || b) P Q) (sym c.sum_and_product.ensures.form) (or_gated P Q))

@@ -8,4 +8,4 @@ pub returns : goal.returns
 returns c =
     let P = form_in c.args.one.now in
     let Q = form_in c.args.other.now in
-    (c.sum-and-product.ensures, subst (Gated differ P Q) (sym c.sum-and-product.ensures.form) (xor_gated P Q))
+    (c.sum_and_product.ensures, subst (Gated differ P Q) (sym c.sum_and_product.ensures.form) (xor_gated P Q))

@@ -11,8 +11,8 @@ use Rattle.terms.proofs.gates.negation.Goals as goal
 abbrev one : Term
 one = record { set = replicate 16 0; coefficient = pos 1 }
 
-pub put-scaled-requires : goal.put-scaled-requires
-put-scaled-requires c =
+pub put_scaled-requires : goal.put_scaled-requires
+put_scaled-requires c =
     let W = c.args.work.now in
     let h = gate_parts (length c.args.form.now + 1) W c.args.form.now c.args.form.now c.requires in
     record {
@@ -27,7 +27,7 @@ returns c =
     let n = length c.args.form.now in
     let h = gate_parts (length c.args.form.now + 1) W c.args.form.now c.args.form.now c.requires in
     let e = ap (λ (ts : List Term). add_all (form_in ts) (scaled 0 (negsuc 0) F)) (first_put W one (omega arith)) in
-    let held : Held (n + 1) (not_form F) W c.put-scaled.new.work c.put-scaled.result
-    = onward (1 + n) (n + 1) c.put-scaled.result _ (not_form F) (set W 0 one) c.put-scaled.new.work W c.put-scaled.ensures e (omega arith)
+    let held : Held (n + 1) (not_form F) W c.put_scaled.new.work c.put_scaled.result
+    = onward (1 + n) (n + 1) c.put_scaled.result _ (not_form F) (set W 0 one) c.put_scaled.new.work W c.put_scaled.ensures e (omega arith)
     (drop-set-lt (n + 1) W 0 one (omega arith)) in
     (held, subst (Gated (λ a b. not a) F F) (sym held.form) (not_gated F))

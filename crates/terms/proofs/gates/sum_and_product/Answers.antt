@@ -21,34 +21,34 @@ behind W W' ts f = ap (drop (length ts)) f ∙ drop_at ts (drop (length ts) W) (
 summed : (F p q : Form) → F ≡ p → add_all F (scaled 0 (pos 1) q) ≡ add_all p q
 summed F p q e = ap₂ (λ (x y : Form). add_all x y) e (scaled_one q)
 
-pub put-form-copied-requires : goal.put-form-copied-requires
-put-form-copied-requires c =
+pub put_form-copied-requires : goal.put_form-copied-requires
+put_form-copied-requires c =
     let A = c.args.one.now in
     let B = c.args.other.now in
     let h = gate_parts (length A + length B + length A * length B) c.args.work.now A B c.requires.fits in
     omega arith
 
-pub put-scaled-used-requires : goal.put-scaled-used-requires
-put-scaled-used-requires c =
+pub put_scaled-used-requires : goal.put_scaled-used-requires
+put_scaled-used-requires c =
     let A = c.args.one.now in
     let B = c.args.other.now in
     let h = gate_parts (length A + length B + length A * length B) c.args.work.now A B c.requires.fits in
-    let e = front c.args.work.now c.put-form-copied.new.work A c.put-form-copied.result c.put-form-copied.ensures.size c.put-form-copied.ensures.whole in
+    let e = front c.args.work.now c.put_form-copied.new.work A c.put_form-copied.result c.put_form-copied.ensures.size c.put_form-copied.ensures.whole in
     record { room = omega arith; fits = omega (arith, ap norm e) }
 
-pub put-product-requires : goal.put-product-requires
-put-product-requires c =
+pub put_product-requires : goal.put_product-requires
+put_product-requires c =
     let A = c.args.one.now in
     let B = c.args.other.now in
     let k = c.args.factor in
     let h = gate_parts (length A + length B + length A * length B) c.args.work.now A B c.requires.fits in
-    let e = front c.args.work.now c.put-form-copied.new.work A c.put-form-copied.result c.put-form-copied.ensures.size c.put-form-copied.ensures.whole in
-    let f = c.put-scaled-used.ensures.form ∙ summed _ (form_in A) (form_in B) e in
+    let e = front c.args.work.now c.put_form-copied.new.work A c.put_form-copied.result c.put_form-copied.ensures.size c.put_form-copied.ensures.whole in
+    let f = c.put_scaled-used.ensures.form ∙ summed _ (form_in A) (form_in B) e in
     let m = mul-le (nat_abs k) (norm (form_in A)) 2 (2 ^ 30) c.requires.few (omega arith) in
     let n = twice_light (nat_abs k) (norm (form_in A)) (norm (form_in B)) c.requires.few h.1 h.2 in
     let z = to_z-of_z w64 k c.ranges.factor in
     record {
-      room = omega (arith, c.put-scaled-used.ensures.bound);
+      room = omega (arith, c.put_scaled-used.ensures.bound);
       fits = rw z (omega (arith, ap norm f, add_all_norm (form_in A) (form_in B)));
       small = rw z (omega arith);
     }
@@ -58,13 +58,13 @@ returns c =
     let A = c.args.one.now in
     let B = c.args.other.now in
     let W = c.args.work.now in
-    let W₁ = c.put-form-copied.new.work in
-    let W₂ = c.put-scaled-used.new.work in
+    let W₁ = c.put_form-copied.new.work in
+    let W₂ = c.put_scaled-used.new.work in
     let N = length A + length B + length A * length B in
-    let e = front W W₁ A c.put-form-copied.result c.put-form-copied.ensures.size c.put-form-copied.ensures.whole in
-    let f = c.put-scaled-used.ensures.form ∙ summed _ (form_in A) (form_in B) e in
-    onward (c.put-scaled-used.result + length A * length B) N c.put-product.result _ _ W₂ c.put-product.new.work W c.put-product.ensures
+    let e = front W W₁ A c.put_form-copied.result c.put_form-copied.ensures.size c.put_form-copied.ensures.whole in
+    let f = c.put_scaled-used.ensures.form ∙ summed _ (form_in A) (form_in B) e in
+    onward (c.put_scaled-used.result + length A * length B) N c.put_product.result _ _ W₂ c.put_product.new.work W c.put_product.ensures
     (ap₂ (λ (k : ℤ) (x : Form). add_product k x (form_in A) (form_in B)) (to_z-of_z w64 c.args.factor c.ranges.factor) f)
-    (omega (arith, c.put-scaled-used.ensures.bound))
-    (drop_later (c.put-form-copied.result + length B) N W₂ W₁ (omega arith) c.put-scaled-used.ensures.rest
-    ∙ drop_later (length A) N W₁ W (omega arith) (behind W W₁ A c.put-form-copied.ensures.whole))
+    (omega (arith, c.put_scaled-used.ensures.bound))
+    (drop_later (c.put_form-copied.result + length B) N W₂ W₁ (omega arith) c.put_scaled-used.ensures.rest
+    ∙ drop_later (length A) N W₁ W (omega arith) (behind W W₁ A c.put_form-copied.ensures.whole))

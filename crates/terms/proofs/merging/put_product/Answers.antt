@@ -29,15 +29,15 @@ turn k ts j m b l h =
           ∙ share_out (nat_abs k) (nat_abs (get_or ts j unread).coefficient) (norm (form_in (drop (j + 1) ts))) b,
     )
 
-pub overflow-mul-factor : goal.overflow-mul-factor
-overflow-mul-factor c =
+pub overflow_mul-factor : goal.overflow_mul-factor
+overflow_mul-factor c =
     let K = to_z w64 (of_z w64 c.args.factor) in
     let d = (get_or c.args.one.now c.loop-t.t-index unread).coefficient in
     let f : SFits w64 d = search rules in
     made_fits K d f (omega (arith, factor K c.args.one.now c.loop-t.t-index c.loop-t-test.true c.loop-t.invariant.2))
 
-pub put-scaled-n-requires : goal.put-scaled-n-requires
-put-scaled-n-requires c =
+pub put_scaled-n-requires : goal.put_scaled-n-requires
+put_scaled-n-requires c =
     let K = to_z w64 (of_z w64 c.args.factor) in
     let T = c.args.one.now in
     let j = c.loop-t.t-index in
@@ -75,19 +75,19 @@ loop-t-preserved c =
     let Q = form_in c.args.other.now in
     let S = number_of (get_or T j unread).set in
     let F = form_in (take c.loop-t.n c.loop-t.work) in
-    let F' = form_in (take c.put-scaled-n.result c.put-scaled-n.new.work) in
+    let F' = form_in (take c.put_scaled-n.result c.put_scaled-n.new.work) in
     let t = turn K T j (norm F) (norm Q) c.loop-t-test.true c.loop-t.invariant.1 in
     let u = factor K T j c.loop-t-test.true c.loop-t.invariant.2 in
     let e : F' ≡ add_all F (scaled S (K *ℤ d) Q)
-    = c.put-scaled-n.ensures.form ∙ ap (λ (y : ℤ). add_all F (scaled S y Q)) (made_is K d f (omega arith)) in
+    = c.put_scaled-n.ensures.form ∙ ap (λ (y : ℤ). add_all F (scaled S y Q)) (made_is K d f (omega arith)) in
     let more : (j + 1) * L ≡ j * L + L = add-mul j 1 L ∙ ap (λ (x : ℕ). j * L + x) (one_times L) in (
       ap (λ (x : Form). add_product K x (form_in (drop (j + 1) T)) Q) e
           ∙ sym (at_drop_more (λ (ts : List Term). add_product K F (form_in ts) Q) T j unread c.loop-t-test.true)
           ∙ c.loop-t.invariant.0,
       omega (arith, ap norm e, add_all_norm F (scaled S (K *ℤ d) Q), scaled_norm S (K *ℤ d) Q ∙ ap (λ (x : ℕ). x * norm Q) (nat_abs_mul K d)),
       omega arith,
-      omega (arith, c.put-scaled-n.ensures.bound),
-      drop_later (c.loop-t.n + L) (c.args.used + (j + 1) * L) c.put-scaled-n.new.work c.loop-t.work (omega arith) c.put-scaled-n.ensures.rest
+      omega (arith, c.put_scaled-n.ensures.bound),
+      drop_later (c.loop-t.n + L) (c.args.used + (j + 1) * L) c.put_scaled-n.new.work c.loop-t.work (omega arith) c.put_scaled-n.ensures.rest
           ∙ drop_later (c.args.used + j * L) (c.args.used + (j + 1) * L) c.loop-t.work c.args.work.now (omega arith) c.loop-t.invariant.4,
     )
   where

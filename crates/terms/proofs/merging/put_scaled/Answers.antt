@@ -21,8 +21,8 @@ turn k ts j m l h =
           ∙ mul-add (nat_abs k) (nat_abs (get_or ts j unread).coefficient) (norm (form_in (drop (j + 1) ts))),
     )
 
-pub overflow-mul-t : goal.overflow-mul-t
-overflow-mul-t c =
+pub overflow_mul-t : goal.overflow_mul-t
+overflow_mul-t c =
     let K = to_z w64 (of_z w64 c.args.factor) in
     let d = (get_or c.args.form.now c.loop-u.u-index unread).coefficient in
     let f : SFits w64 d = search rules in
@@ -30,8 +30,8 @@ overflow-mul-t c =
     let t = turn K c.args.form.now c.loop-u.u-index (norm F) c.loop-u-test.true c.loop-u.invariant.1 in
     made_fits K d f (omega arith)
 
-pub put-term-n-requires : goal.put-term-n-requires
-put-term-n-requires c =
+pub put_term-n-requires : goal.put_term-n-requires
+put_term-n-requires c =
     let K = to_z w64 (of_z w64 c.args.factor) in
     let d = (get_or c.args.form.now c.loop-u.u-index unread).coefficient in
     let f : SFits w64 d = search rules in
@@ -61,16 +61,16 @@ loop-u-preserved c =
     let s = number_of c.args.set.now in
     let S = bit_or s (number_of (get_or T j unread).set) in
     let F = form_in (take c.loop-u.n c.loop-u.work) in
-    let F' = form_in (take c.put-term-n.result c.put-term-n.new.work) in
+    let F' = form_in (take c.put_term-n.result c.put_term-n.new.work) in
     let t = turn K T j (norm F) c.loop-u-test.true c.loop-u.invariant.1 in
     let e : F' ≡ insert S (K *ℤ d) F
-    = c.put-term-n.ensures.form ∙ ap₂ (λ (x : ℕ) (y : ℤ). insert x y F) c.join.ensures (made_is K d f (omega arith)) in (
+    = c.put_term-n.ensures.form ∙ ap₂ (λ (x : ℕ) (y : ℤ). insert x y F) c.join.ensures (made_is K d f (omega arith)) in (
       ap (λ (x : Form). add_all x (scaled s K (form_in (drop (j + 1) T)))) e
           ∙ sym (at_drop_more (λ (ts : List Term). add_all F (scaled s K (form_in ts))) T j unread c.loop-u-test.true)
           ∙ c.loop-u.invariant.0,
       omega (arith, ap norm e, insert_norm S (K *ℤ d) F, nat_abs_mul K d),
-      omega (arith, c.put-term-n.ensures.bound),
-      drop_later (c.loop-u.n + 1) (c.args.used + (j + 1)) c.put-term-n.new.work c.loop-u.work (omega arith) c.put-term-n.ensures.rest
+      omega (arith, c.put_term-n.ensures.bound),
+      drop_later (c.loop-u.n + 1) (c.args.used + (j + 1)) c.put_term-n.new.work c.loop-u.work (omega arith) c.put_term-n.ensures.rest
           ∙ drop_later (c.args.used + j) (c.args.used + (j + 1)) c.loop-u.work c.args.work.now (omega arith) c.loop-u.invariant.3,
     )
 

@@ -33,8 +33,8 @@ same_set s w r l e f = omega (arith, ltb-false s w (sym e ∙ f))
 apart : (s w : ℕ) (r : Bool) → r ≡ ltb s w → r ≡ true → w ≡ s → ⊥
 apart s w r e f g = omega (arith, ltb-true s w (sym e ∙ f))
 
-pub overflow-add-sum : goal.overflow-add-sum
-overflow-add-sum c =
+pub overflow_add-sum : goal.overflow_add-sum
+overflow_add-sum c =
     let a = c.args.t.coefficient in
     let d = (get_or c.args.work.now c.place-i.result unread).coefficient in
     let b = both_fit a c.args.work.now c.args.used c.place-i.result c.requires.room c.if-i-used.true c.requires.fits in
@@ -47,10 +47,10 @@ returns-then-sum-eq0 c =
     let b = both_fit a c.args.work.now c.args.used c.place-i.result c.requires.room c.if-i-used.true c.requires.fits in
     let n = same_set _ _ _ (c.place-i.ensures.here unread c.if-i-used.true) c.before-then-i-used.ensures c.if-not-before.true in
     holding _ _ _ c.args.work.now _ (omega arith) (omega arith)
-    (ap (λ x. form_in (take (c.args.used - 1) x)) c.close-at.ensures
+    (ap (λ x. form_in (take (c.args.used - 1) x)) c.close_at.ensures
     ∙ closed_form c.args.work.now c.args.used c.place-i.result c.args.t unread c.requires.room c.place-i.ensures c.if-i-used.true n
     (null_of (a +ℤ d) (sum_fits a d b) (ap (of_z w64) (sym (coded a d b)) ∙ c.if-sum-eq0.true)))
-    (ap (drop (c.args.used + 1)) c.close-at.ensures ∙ closed_rest c.args.work.now c.args.used c.place-i.result c.requires.room c.if-i-used.true)
+    (ap (drop (c.args.used + 1)) c.close_at.ensures ∙ closed_rest c.args.work.now c.args.used c.place-i.result c.requires.room c.if-i-used.true)
 
 pub returns-then-not-before : goal.returns-then-not-before
 returns-then-not-before c =
@@ -77,11 +77,11 @@ returns-then-t-eq0 c = holding _ _ _ c.args.work.now _ (omega arith) (omega arit
 
 pub returns : goal.returns
 returns c = holding _ _ _ c.args.work.now _ (omega arith) (omega arith)
-    (ap (λ x. form_in (take (c.args.used + 1) x)) c.open-at.ensures
+    (ap (λ x. form_in (take (c.args.used + 1) x)) c.open_at.ensures
     ∙ opened_form c.args.work.now c.args.used c.place-i.result c.args.t unread c.requires.room c.place-i.ensures
     (elim c.else-i-used.branch [
       | else-i-used-via-then-i-used+else-not-before w ↦ λ l. apart (number_of c.args.t.set) (number_of (get_or c.args.work.now c.place-i.result unread).set) w.before-then-i-used.result w.before-then-i-used.ensures w.if-not-before.false
       | else-i-used-via-else-i-used w ↦ λ l e. omega (arith, w.if-i-used.false)
     ])
     (whole_of c.args.t.coefficient c.if-t-eq0.false))
-    (ap (drop (c.args.used + 1)) c.open-at.ensures ∙ opened_rest c.args.work.now c.args.used c.place-i.result c.args.t c.requires.room c.place-i.ensures.within)
+    (ap (drop (c.args.used + 1)) c.open_at.ensures ∙ opened_rest c.args.work.now c.args.used c.place-i.result c.args.t c.requires.room c.place-i.ensures.within)

@@ -37,8 +37,8 @@ step A B i h l =
 pub returns-then-one-other : goal.returns-then-one-other
 returns-then-one-other c = other_lengths c.args.one.now c.args.other.now c.if-one-other.true
 
-pub returns-then-not-same-term : goal.returns-then-not-same-term
-returns-then-not-same-term c =
+pub returns-then-not-same_term : goal.returns-then-not-same_term
+returns-then-not-same_term c =
     let A = c.args.one.now in
     let B = c.args.other.now in
     let i = c.loop-i.i in
@@ -46,7 +46,7 @@ returns-then-not-same-term c =
     let u = get_or B i unread in
     sym (sym c.loop-i.invariant ∙ step A B i c.loop-i-test.true (omega arith)
     ∙ stop (eqb (number_of t.set) (number_of u.set)) (eqb (nat_abs (t.coefficient -ℤ u.coefficient)) 0)
-    (same (form_in (drop (i + 1) A)) (form_in (drop (i + 1) B))) (sym c.same-term.ensures ∙ c.if-not-same-term.true))
+    (same (form_in (drop (i + 1) A)) (form_in (drop (i + 1) B))) (sym c.same_term.ensures ∙ c.if-not-same_term.true))
 
 pub loop-i-preserved : goal.loop-i-preserved
 loop-i-preserved c =
@@ -57,7 +57,7 @@ loop-i-preserved c =
     let u = get_or B i unread in
     sym (step A B i c.loop-i-test.true (omega arith)
     ∙ pass (eqb (number_of t.set) (number_of u.set)) (eqb (nat_abs (t.coefficient -ℤ u.coefficient)) 0)
-    (same (form_in (drop (i + 1) A)) (form_in (drop (i + 1) B))) (sym c.same-term.ensures ∙ c.if-not-same-term.false))
+    (same (form_in (drop (i + 1) A)) (form_in (drop (i + 1) B))) (sym c.same_term.ensures ∙ c.if-not-same_term.false))
     ∙ c.loop-i.invariant
 
 pub returns : goal.returns

@@ -30,13 +30,13 @@ widened z h =
 ended : (s v w : ℤ) → v ≡ pos 0 → s +ℤ v ≡ w → s ≡ w
 ended s v w e f = sym (+ℤ_idr s) ∙ ap (λ (z : ℤ). s +ℤ z) (sym e) ∙ f
 
-pub overflow-add-sum : goal.overflow-add-sum
-overflow-add-sum c =
+pub overflow_add-sum : goal.overflow_add-sum
+overflow_add-sum c =
     let x = c.share.result in
     let s = c.loop-t.sum in
     let b = subst (λ (z : ℤ). nat_abs z ≤ c.loop-t.t-index * 2 ^ 63) c.loop-t.sum-is c.loop-t.invariant.1 in
-    subst (SFits w128) (sym (ap₂ (λ (a b : ℤ). a +ℤ b) c.loop-t.sum-is (widened x c.share.type-inv)))
-    (wide_fits (s +ℤ x) (omega (arith, nat_abs_sum s x, size x c.share.type-inv)))
+    subst (SFits w128) (sym (ap₂ (λ (a b : ℤ). a +ℤ b) c.loop-t.sum-is (widened x c.share.type_inv)))
+    (wide_fits (s +ℤ x) (omega (arith, nat_abs_sum s x, size x c.share.type_inv)))
 
 pub loop-t-init : goal.loop-t-init
 loop-t-init c = (+ℤ_idl _, omega arith)
@@ -49,8 +49,8 @@ loop-t-preserved c =
     let r = number_of c.args.row.now in
     let j = c.loop-t.t-index in
     let b = subst (λ (z : ℤ). nat_abs z ≤ j * 2 ^ 63) c.loop-t.sum-is c.loop-t.invariant.1 in
-    let small : nat_abs (s +ℤ x) ≤ (j + 1) * 2 ^ 63 = omega (arith, nat_abs_sum s x, size x c.share.type-inv) in
-    let e = ap (λ (z : ℤ). to_z w128 (of_z w128 z)) (ap₂ (λ (a b : ℤ). a +ℤ b) c.loop-t.sum-is (widened x c.share.type-inv))
+    let small : nat_abs (s +ℤ x) ≤ (j + 1) * 2 ^ 63 = omega (arith, nat_abs_sum s x, size x c.share.type_inv) in
+    let e = ap (λ (z : ℤ). to_z w128 (of_z w128 z)) (ap₂ (λ (a b : ℤ). a +ℤ b) c.loop-t.sum-is (widened x c.share.type_inv))
     ∙ to_z-of_z w128 (s +ℤ x) (wide_fits (s +ℤ x) (omega arith)) in
     let d = at_drop_more (λ (ts : List Term). value (form_in ts) r) T j unread c.loop-t-test.true in (
       omega (arith, ints, e, d, c.share.ensures, c.loop-t.invariant.0),

@@ -12,14 +12,14 @@ pub returns-then-sum-limit : goal.returns-then-sum-limit
 returns-then-sum-limit c =
     let z = (get_or c.args.form.now c.loop-t.t-index unread).coefficient in
     let f : SFits w64 z = search rules in
-    let e = c.unsigned-abs-sum.ensures.value ∙ ap nat_abs (to_z-of_z w64 z f) in
+    let e = c.unsigned_abs-sum.ensures.value ∙ ap nat_abs (to_z-of_z w64 z f) in
     sym (le-ltb (norm (form_in c.args.form.now)) c.args.limit (omega (arith, e, norm_step c.args.form.now c.loop-t.t-index c.loop-t-test.true)))
 
 pub loop-t-preserved : goal.loop-t-preserved
 loop-t-preserved c =
     let z = (get_or c.args.form.now c.loop-t.t-index unread).coefficient in
     let f : SFits w64 z = search rules in
-    let e = c.unsigned-abs-sum.ensures.value ∙ ap nat_abs (to_z-of_z w64 z f) in
+    let e = c.unsigned_abs-sum.ensures.value ∙ ap nat_abs (to_z-of_z w64 z f) in
     (omega (arith, e, norm_step c.args.form.now c.loop-t.t-index c.loop-t-test.true), c.if-sum-limit.false)
 
 pub returns : goal.returns

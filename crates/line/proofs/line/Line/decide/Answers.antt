@@ -7,8 +7,8 @@ use Rattle.line.proofs.Rules.{flops_free}
 use Rattle.line.proofs.Whole.{wires_are, bytes_are, pair_is}
 use Rattle.line.proofs.line.Line.decide.Goals as goal
 
-pub slice-bounds-settle-end : goal.slice-bounds-settle-end
-slice-bounds-settle-end g c =
+pub slice_bounds-settle-end : goal.slice_bounds-settle-end
+slice_bounds-settle-end g c =
     let sheet = c.args.self.now.sheet in
     let few : c.flops-count.result ≤ 128 = omega (arith, c.flops-count.ensures, flops_free (nodes_in sheet), sheet.free) in
     search rules

@@ -11,4 +11,4 @@ returns g c =
     let all = c.decide.result.0 in
     let d = c.decide.ensures in
     tick_is s c.args.sensors.now c.args.events.now c.decide.new.events (take (n - 0) all) (ap (λ k. take k all) (sub-zero n ∙ c.len-lines.ensures) ∙ d.wires) d.bytes
-    c.decide.result.1 _ d.pair c.move-all.ensures
+    c.decide.result.1 _ d.pair c.move_all.ensures

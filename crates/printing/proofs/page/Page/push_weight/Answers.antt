@@ -7,11 +7,11 @@ use Rattle.printing.proofs.Digits.{signed_below, signed_above}
 use Rattle.printing.proofs.page.Page.push_weight.Goals as goal
 use Rattle.printing.proofs.page.Page.push_weight.Goals.{then-weight-lt0, else-weight-lt0}
 
-pub push-number-requires : goal.push-number-requires
-push-number-requires c =
+pub push_number-requires : goal.push_number-requires
+push_number-requires c =
     let z = c.args.weight in
     let same = to_z-of_z w32 z c.ranges.weight in
-    let size : c.unsigned-abs.result ≡ nat_abs z = c.unsigned-abs.ensures.value ∙ ap nat_abs same in
+    let size : c.unsigned_abs.result ≡ nat_abs z = c.unsigned_abs.ensures.value ∙ ap nat_abs same in
     let below = ap (λ y. lt_z y (pos 0)) (sym same) in
     let digits = ap (λ n. length (decimal n)) size in
     elim c.if-weight-lt0.branch [
@@ -24,9 +24,9 @@ returns c =
     let z = c.args.weight in
     let same = to_z-of_z w32 z c.ranges.weight in
     let text = text_on c.args.self.now in
-    let size : c.unsigned-abs.result ≡ nat_abs z = c.unsigned-abs.ensures.value ∙ ap nat_abs same in
+    let size : c.unsigned_abs.result ≡ nat_abs z = c.unsigned_abs.ensures.value ∙ ap nat_abs same in
     let below = ap (λ y. lt_z y (pos 0)) (sym same) in
-    c.push-number.ensures ∙ ap (λ n. text_on c.if-weight-lt0.self ++ decimal n) size ∙ elim c.if-weight-lt0.branch [
+    c.push_number.ensures ∙ ap (λ n. text_on c.if-weight-lt0.self ++ decimal n) size ∙ elim c.if-weight-lt0.branch [
       | then-weight-lt0 w ↦
           ap (λ p. text_on p ++ decimal (nat_abs z)) w.self-is ∙ ap (λ x. x ++ decimal (nat_abs z)) w.push.ensures
           ∙ append_assoc text (45 ∷ []) (decimal (nat_abs z)) ∙ ap (λ x. text ++ x) (sym (signed_below z (below ∙ w.if-weight-lt0.true)))

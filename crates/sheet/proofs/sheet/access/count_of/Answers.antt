@@ -6,8 +6,8 @@ use Rattle.sheet.proofs.sheet.access.count_of.Goals as goal
 
 pub loop-node-preserved : goal.loop-node-preserved
 loop-node-preserved c = (
-  omega (arith, c.from-n.ensures, byte_le c.is-of.result),
-  count_on (is_of c.args.class) c.args.nodes.now c.loop-node.node-index _ _ _ (omega arith) c.loop-node.invariant.1 c.from-n.ensures c.is-of.ensures,
+  omega (arith, c.from-n.ensures, byte_le c.is_of.result),
+  count_on (is_of c.args.class) c.args.nodes.now c.loop-node.node-index _ _ _ (omega arith) c.loop-node.invariant.1 c.from-n.ensures c.is_of.ensures,
 )
 
 pub returns : goal.returns

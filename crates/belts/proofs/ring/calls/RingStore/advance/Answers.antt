@@ -7,4 +7,4 @@ use Rattle.belts.proofs.ring.calls.RingStore.advance.Goals as goal
 pub returns : goal.returns
 returns c =
     let r = c.args.self.now in
-    simp c.after-place-self.ensures (ap (holding (ring_of r)) (sym (ap rest (ring_oldest r c.requires))))
+    simp c.after_place-self.ensures (ap (holding (ring_of r)) (sym (ap rest (ring_oldest r c.requires))))

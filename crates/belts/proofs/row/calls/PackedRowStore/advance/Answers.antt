@@ -4,12 +4,12 @@ use Rattle.belts.specs.Layouts.{row_of}
 use Rattle.belts.proofs.Nibbles.{row_counted, row_first, below_take}
 use Rattle.belts.proofs.row.calls.PackedRowStore.advance.Goals as goal
 
-pub invariant-of-self : goal.invariant-of-self
-invariant-of-self c =
+pub invariant_of-self : goal.invariant_of-self
+invariant_of-self c =
     let r = c.args.self.now in
     let n = row_counted r in
     let some : 0 < r.count = omega arith in
-    (omega arith, (omega arith, (omega arith, (omega arith, (below_take r.count r.bits some r.clean, tt)))))
+    record { some = omega arith; few = omega arith; narrow = omega arith; held = omega arith; clean = below_take r.count r.bits some r.clean }
 
 pub returns : goal.returns
 returns c =

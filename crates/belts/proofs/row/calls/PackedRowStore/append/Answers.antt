@@ -4,12 +4,18 @@ use Rattle.belts.specs.Layouts.{row_of}
 use Rattle.belts.proofs.Nibbles.{row_open, joined_put, below_put, unpacked_put}
 use Rattle.belts.proofs.row.calls.PackedRowStore.append.Goals as goal
 
-pub invariant-of-self : goal.invariant-of-self
-invariant-of-self c =
+pub invariant_of-self : goal.invariant_of-self
+invariant_of-self c =
     let r = c.args.self.now in
     let k = row_open r c.requires.0 in
     let b = below_put r.count r.bits c.args.word r.clean c.requires.1 in
-    (omega arith, (omega arith, (omega arith, (omega arith, (rw (joined_put r.count r.bits c.args.word (omega arith) r.clean c.requires.1) b, tt)))))
+    record {
+      some = omega arith;
+      few = omega arith;
+      narrow = omega arith;
+      held = omega arith;
+      clean = rw (joined_put r.count r.bits c.args.word (omega arith) r.clean c.requires.1) b;
+    }
 
 pub returns : goal.returns
 returns c =
