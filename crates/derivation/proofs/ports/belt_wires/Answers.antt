@@ -5,7 +5,7 @@ use Rattle.sheet.specs.declared.node.Source.TheVariants.{Sensor}
 use Rattle.sheet.specs.Nodes.{belts_of}
 use Rattle.derivation.proofs.Lines.{belts_other, get_d_pass}
 use Rattle.derivation.proofs.ports.belt_wires.Goals as goal
-use Rattle.derivation.proofs.ports.belt_wires.Goals.{in-Belt+else-left-eq0, in-default}
+use Rattle.derivation.proofs.ports.belt_wires.Goals.{in-Belt+else-left-eq0, in_default}
 
 pub returns-then-left-eq0 : goal.returns-then-left-eq0
 returns-then-left-eq0 c =
@@ -24,9 +24,9 @@ loop-node-preserved c =
       | in-Belt+else-left-eq0 w ↦
           get_d_pass (0, 0) (w.in-Belt.offer, w.in-Belt.take) (belts_of (drop (i + 1) ns)) c.loop-node.left c.match-node.left w.if-left-eq0.false w.left-is
           ∙ sym (ap (λ n. get_or (belts_of (n ∷ drop (i + 1) ns)) c.loop-node.left (0, 0)) w.in-Belt.is) ∙ sym more ∙ c.loop-node.invariant
-      | in-default w ↦
+      | in_default w ↦
           ap (λ k. get_or (belts_of (drop (i + 1) ns)) k (0, 0)) w.left-is
-          ∙ sym (ap (λ bs. get_or bs c.loop-node.left (0, 0)) (belts_other (get_or ns i (Free Sensor)) (drop (i + 1) ns) w.in-default.not-Belt)) ∙ sym more ∙ c.loop-node.invariant
+          ∙ sym (ap (λ bs. get_or bs c.loop-node.left (0, 0)) (belts_other (get_or ns i (Free Sensor)) (drop (i + 1) ns) w.in_default.not-Belt)) ∙ sym more ∙ c.loop-node.invariant
     ]
 
 pub returns : goal.returns

@@ -21,14 +21,14 @@ loop-j-preserved-then-is_zero g c =
     let z = ap m.kind.is_zero (sym x) ∙ sym c.if-is_zero.ensures in
     sym (passes_by m.kind a.n (size - a.n) c.loop-j.j (omega arith) (kept_of size a.leads.now (map m.value a.rows.now)) (map m.value c.loop-j.row) z) ∙ c.loop-j.invariant
 
-pub returns-in-default : goal.returns-in-default
-returns-in-default g c =
+pub returns-in_default : goal.returns-in_default
+returns-in_default g c =
     let m = g.T.Number in
     let a = c.args in
     let size = length a.row.now in
     let x = at_read m.kind m.value c.loop-j.row (a.n + c.loop-j.j) _ (omega arith) c.index-row-n.is in
     let z = ap m.kind.is_zero (sym x) ∙ sym c.if-is_zero.ensures in
-    let f = found_none size c.loop-j.j a.leads.now (map m.value a.rows.now) c.in-default.ensures in
+    let f = found_none size c.loop-j.j a.leads.now (map m.value a.rows.now) c.in_default.ensures in
     record { place = omega arith; result = sym (leads_at m.kind a.n (size - a.n) c.loop-j.j (omega arith) (kept_of size a.leads.now (map m.value a.rows.now)) (map m.value c.loop-j.row) z f) ∙ c.loop-j.invariant }
 
 pub row_at-requires : goal.row_at-requires

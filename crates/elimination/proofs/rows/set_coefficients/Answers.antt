@@ -11,12 +11,12 @@ loop-i-init g c =
     let e : c.args.n + 0 ≡ c.args.n = omega arith in
     (ap (λ k. map m.value (take k c.args.row.now)) e ∙ sym (append-nil (map m.value (take c.args.n c.args.row.now))), refl)
 
-pub returns-in-default : goal.returns-in-default
-returns-in-default g c =
+pub returns-in_default : goal.returns-in_default
+returns-in_default g c =
     let m = g.T.Number in
     let z = get_or c.args.coefficients.now c.loop-i.i (pos 0) in
     let f : SFits w64 z = search rules in
-    let e = ap (λ y. m.kind.past (m.kind.counts y)) (sym (to_z-of_z w64 z f)) ∙ c.in-default.ensures in
+    let e = ap (λ y. m.kind.past (m.kind.counts y)) (sym (to_z-of_z w64 z f)) ∙ c.in_default.ensures in
     let p = past_more m.kind m.kind.counts c.args.coefficients.now c.loop-i.i z true (omega arith) (get_or_default c.args.coefficients.now c.loop-i.i (pos 0) z (omega arith)) e in
     record { within = ap not (sym p ∙ c.loop-i.invariant.1); stored = λ (e : false ≡ true). let z : ◌≡◌ {A = ℕ} 0 1 = cc in absurd (omega arith) }
 

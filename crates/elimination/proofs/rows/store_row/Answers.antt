@@ -4,10 +4,10 @@ use Rattle.kinds.specs.Elimination.{any_past}
 use Rattle.elimination.proofs.Fills.{stored_more, past_more}
 use Rattle.elimination.proofs.rows.store_row.Goals as goal
 
-pub returns-in-default : goal.returns-in-default
-returns-in-default g c =
+pub returns-in_default : goal.returns-in_default
+returns-in_default g c =
     let m = g.T.Number in
-    let p = past_more m.kind m.wide c.args.from.now c.loop-i.i _ true (omega arith) c.index-from-i.is c.in-default.ensures in
+    let p = past_more m.kind m.wide c.args.from.now c.loop-i.i _ true (omega arith) c.index-from-i.is c.in_default.ensures in
     record { within = ap not (sym p ∙ c.loop-i.invariant.1); stored = λ (e : false ≡ true). let z : ◌≡◌ {A = ℕ} 0 1 = cc in absurd (omega arith) }
 
 pub loop-i-preserved : goal.loop-i-preserved

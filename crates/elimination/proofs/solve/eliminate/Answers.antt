@@ -50,8 +50,8 @@ keep-requires g c =
     let q = ap (λ z. (l.b - l.found) * z) e in
     record { long = omega arith; led = omega arith; room = omega (arith, i, q, e, c.requires.room, l.auto.rows); place = omega (arith, j, c.requires.place, l.auto.balances) }
 
-pub returns-in-default : goal.returns-in-default
-returns-in-default g c =
+pub returns-in_default : goal.returns-in_default
+returns-in_default g c =
     let v = g.T.Number in
     let a = c.args in
     let l = c.loop-b in
@@ -60,7 +60,7 @@ returns-in-default g c =
     let h = told v.kind c.handle-end.result (map v.value c.handle-end.new.row) in
     let u : l.b - l.found - 0 ≡ l.b - l.found = omega arith in
     let same = c.handle-end.ensures ∙ same_handled v.kind a.n a.m (length c.start_row.new.row) (omega arith) (ap (λ k. take k l.leads) u) (map v.value l.rows) (c.start_row.ensures.stored c.if-not-start_row.false) in
-    let none = ap (λ z. added v.kind a.n (state_of a.n z (l.b - l.found) l.found l.leads (map v.value l.rows) (map v.value l.balances)) h) (sym e) ∙ c.in-default.ensures in
+    let none = ap (λ z. added v.kind a.n (state_of a.n z (l.b - l.found) l.found l.leads (map v.value l.rows) (map v.value l.balances)) h) (sym e) ∙ c.in_default.ensures in
     sym l.invariant.2 ∙ steps_past v.kind a.n a.m l.b c.loop-b-test.true a.coefficients.now c.row_at.result.now c.row_at.ensures s (was_false _ c.if-not-start_row.ensures.within) h same none
 
 pub loop-b-preserved : goal.loop-b-preserved

@@ -2,7 +2,7 @@ use Rattle.std.proofs.Common.{length, sym, ap, ◌∙◌, arith, length-set}
 use Rattle.line.specs.Parts.{offer_and_take}
 use Rattle.line.proofs.Collecting.{place_left, collected_one, collected_none, all_collected, all_counted, told_belts, length_belts}
 use Rattle.line.proofs.events.belt_wires.Goals as goal
-use Rattle.line.proofs.events.belt_wires.Goals.{in-Some, in-default}
+use Rattle.line.proofs.events.belt_wires.Goals.{in-Some, in_default}
 
 pub bounds-belts-n : goal.bounds-belts-n
 bounds-belts-n c =
@@ -19,7 +19,7 @@ loop-node-preserved c =
           let e = sym w.in-Some.ensures in
           let lt = place_left offer_and_take ns l.node-index l.belts l.n l.invariant.1 (omega arith) _ e in
           rw (w.belts-is, w.n-is) (length-set l.belts l.n _ ∙ l.invariant.0, collected_one offer_and_take ns l.node-index l.belts l.n l.invariant.1 (omega arith) _ e (omega (arith, lt, ap length (told_belts ns), length_belts ns, c.requires.belts)))
-      | in-default w ↦ rw (w.belts-is, w.n-is) (l.invariant.0, collected_none offer_and_take ns l.node-index l.belts l.n l.invariant.1 (omega arith) (sym w.in-default.ensures))
+      | in_default w ↦ rw (w.belts-is, w.n-is) (l.invariant.0, collected_none offer_and_take ns l.node-index l.belts l.n l.invariant.1 (omega arith) (sym w.in_default.ensures))
     ]
 
 pub returns : goal.returns
