@@ -27,8 +27,8 @@ loop-b-preserved c =
       rows_more (columns_in cs) (flows_by ns fs c.args.belts) (length cs) b _ _ _ (omega (arith, flows_many ns fs c.args.belts)) flow c.fill_row.ensures ∙ c.loop-b.invariant.1,
     )
 
-pub shape-of-work : goal.shape-of-work
-shape-of-work c = c.loop-b.invariant.0
+pub shape_of-work : goal.shape_of-work
+shape_of-work c = c.loop-b.invariant.0
 
 pub returns : goal.returns
 returns c =
