@@ -1,9 +1,9 @@
 -- A flow in working records: two products, the second taken from the first.
-use Rattle.std.proofs.Common.{◌≡◌, ℕ, ◌+◌, ◌*◌, ◌^◌, ◌<◌, ◌≤◌, Bool, true, false, ◌&&◌, ltb, leb, List, [], length, get_or, take, ℤ, pos, negsuc, nat_abs, Some, None, Option, unwrap_or, sym, refl, ap, ◌∙◌, subst, ap₂, mul-le-mul, arith, MatchOption}
+use Rattle.std.proofs.Common.{◌≡◌, ℕ, ◌+◌, ◌*◌, ◌^◌, ◌<◌, ◌≤◌, true, List, [], length, get_or, take, pos, negsuc, Some, None, Option, unwrap_or, sym, refl, ap, ◌∙◌, subst, ap₂, mul-le-mul, arith}
 use Rattle.std.proofs.lemmas.Bool.{and_from, le-leb, lt-ltb, ltb-true, both_ways}
 use Rattle.terms.specs.declared.term.Term.{Term}
 use Rattle.terms.specs.Forms.{Form, and_form, add_product, norm}
-use Rattle.terms.specs.Records.{form_in, light, product_fits, Held, Merged}
+use Rattle.terms.specs.Records.{form_in, light, product_fits, Merged}
 use Rattle.terms.proofs.Norms.{add_product_norm, twice_light}
 use Rattle.flows.specs.Flows.{Ports, flow_by}
 use Rattle.flows.proofs.Flowing.{and_rises, flow_product}

@@ -1,5 +1,5 @@
 -- What is written is read back as the balances, so that what holds of them holds of the memory.
-use Rattle.std.proofs.Common.{◌≡◌, ℕ, zero, suc, ◌+◌, ◌*◌, ◌≤◌, Bool, true, false, cond, ◌↔◌, List, [], ◌∷◌, ◌++◌, map, length, drop, ℤ, IfOk, Ok, Err, Result, sym, refl, ap, ◌∙◌, subst, ap₂, suc-mul, arith}
+use Rattle.std.proofs.Common.{◌≡◌, ℕ, zero, suc, ◌*◌, ◌≤◌, Bool, true, false, cond, ◌↔◌, List, [], ◌∷◌, ◌++◌, map, length, drop, ℤ, IfOk, Ok, Err, Result, sym, refl, ap, ◌∙◌, subst, ap₂, suc-mul, arith}
 use Rattle.std.specs.List.{flat_map, AllByRecursion as All}
 use Rattle.std.proofs.lemmas.List.{append_assoc, map-append, length-map, length-drop, length-take-le, take_at, drop_at}
 use Rattle.std.proofs.ByRecursion.{All-weaker}

@@ -1,5 +1,5 @@
 -- What follows from the laws of a kind of number. Assumes nothing.
-use Rattle.std.proofs.Common.{◌≡◌, Bool, true, false, ◌≢◌, ℤ, pos, ◌+ℤ◌, neg_ℤ, sym, refl, ap, ◌∙◌, true≢false}
+use Rattle.std.proofs.Common.{◌≡◌, Bool, true, false, ◌≢◌, ℤ, pos, neg_ℤ, sym, refl, ap, ◌∙◌, true≢false}
 use lib.IntN.{+ℤ_comm, +ℤ_invr}
 use Rattle.kinds.specs.Kinds.{Kind, Lawful}
 
