@@ -1,6 +1,6 @@
 -- From a table and its elimination to what derivation answers and writes.
 use Rattle.std.proofs.Common.{◌≡◌, ℕ, suc, ◌+◌, ◌*◌, ◌<◌, ◌≤◌, Bool, true, false, cond, ltb, List, [], ◌∷◌, ◌++◌, map, length, drop, ℤ, IfOk, Some, None, Ok, Err, count_by, Option, Result, sym, refl, ap, ◌∙◌, subst, ap₂, suc-mul, zero-mul, arith, MatchResult}
-use Rattle.std.specs.List.{flat_map, AllByRecursion as All}
+use Rattle.std.specs.List.{flat_map, AllByRecursion}
 use Rattle.std.proofs.lemmas.List.{append_assoc, append-nil, map-append, length-append, length-map, take_at, drop_at}
 use Rattle.std.proofs.lemmas.Bool.{and_from, le-leb, ltb-false, eq-eqb}
 use Rattle.sheet.specs.declared.node.Node.{Node}
@@ -29,12 +29,12 @@ use Rattle.derivation.specs.Tables.{rows_in, tested, tested_first, Tabled, Untab
 
 -- ---- rows of m numbers, one after another
 
-length_joined : {A : Type 0} (m : ℕ) (rows : List (List A)) → All (λ r. length r ≡ m) rows → length (flat_map (λ r. r) rows) ≡ length rows * m
+length_joined : {A : Type 0} (m : ℕ) (rows : List (List A)) → AllByRecursion (λ r. length r ≡ m) rows → length (flat_map (λ r. r) rows) ≡ length rows * m
 length_joined m [] h = sym (zero-mul m)
 length_joined m (r ∷ rows) h = length-append r (flat_map (λ s. s) rows) ∙ omega (arith, h.0, length_joined m rows h.1, suc-mul (length rows) m)
 
 -- they are read back as they are, whatever follows
-rows_back : {A : Type 0} (m : ℕ) (rows : List (List A)) (rest : List A) → All (λ r. length r ≡ m) rows → rows_of (length rows) m (flat_map (λ r. r) rows ++ rest) ≡ rows
+rows_back : {A : Type 0} (m : ℕ) (rows : List (List A)) (rest : List A) → AllByRecursion (λ r. length r ≡ m) rows → rows_of (length rows) m (flat_map (λ r. r) rows ++ rest) ≡ rows
 rows_back m [] rest h = refl
 rows_back m (r ∷ rows) rest h =
     let more = flat_map (λ s. s) rows ++ rest in
@@ -46,7 +46,7 @@ map_joined : {A B : Type 0} (f : A → B) (rows : List (List A)) → map f (flat
 map_joined f [] = refl
 map_joined f (r ∷ rows) = map-append f r (flat_map (λ s. s) rows) ∙ ap (λ zs. map f r ++ zs) (map_joined f rows)
 
-long_mapped : {A B : Type 0} (f : A → B) (m : ℕ) (rows : List (List A)) → All (λ r. length r ≡ m) rows → All (λ r. length r ≡ m) (map (map f) rows)
+long_mapped : {A B : Type 0} (f : A → B) (m : ℕ) (rows : List (List A)) → AllByRecursion (λ r. length r ≡ m) rows → AllByRecursion (λ r. length r ≡ m) (map (map f) rows)
 long_mapped f m [] h = tt
 long_mapped f m (r ∷ rows) h = (length-map r f ∙ h.0, long_mapped f m rows h.1)
 
@@ -125,7 +125,7 @@ module _ (K : Kind) (ns : List Node) (weights : List ℤ) where
         ap (λ p. record { answer = by_belt p.0; memory = p.1 }) f ∙ sym (derivation ∙ ap (λ y. written length (flat_map (λ w. w)) (as_written K y) weights) e)
 
     module _ (t : Table) (tab : Tabled ns t) where
-      long : (flows : List Form) → All (λ r. length r ≡ t.columns) (map (λ p. map (coefficient p) (columns_of (flows_of ns))) flows)
+      long : (flows : List Form) → AllByRecursion (λ r. length r ≡ t.columns) (map (λ p. map (coefficient p) (columns_of (flows_of ns))) flows)
       long [] = tt
       long (p ∷ flows) = (length-map (columns_of (flows_of ns)) (coefficient p) ∙ sym tab.columns, long flows)
 

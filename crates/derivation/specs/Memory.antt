@@ -1,6 +1,6 @@
 -- How columns and rows lie in memory. Assumes nothing.
 use Rattle.std.specs.Prelude.{◌≡◌, ℕ, suc, ◌≤◌, cond, List, [], ◌∷◌, map, length, take, ℤ, pos, ◌==◌}
-use Rattle.std.specs.List.{range_with_len, flat_map, AllByRecursion as All}
+use Rattle.std.specs.List.{range_with_len, flat_map, AllByRecursion}
 use Rattle.sheet.specs.declared.node.Node.{Node}
 use Rattle.terms.specs.declared.term.Term.{Term}
 use Rattle.terms.specs.Forms.{Form, norm}
@@ -14,7 +14,7 @@ sets_of p = map (λ t. t.0) p
 
 -- every coefficient is above zero
 abbrev pub Above : Form → Type 0
-Above p = All (λ t. (n : ℕ) × (t.1 ≡ pos (suc n))) p
+Above p = AllByRecursion (λ t. (n : ℕ) × (t.1 ≡ pos (suc n))) p
 
 -- the columns that records list, and how often their terms were found together
 abbrev pub columns_in : List Term → List ℕ

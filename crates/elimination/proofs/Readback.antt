@@ -1,6 +1,6 @@
 -- What is written is read back as the balances, so that what holds of them holds of the memory.
 use Rattle.std.proofs.Common.{◌≡◌, ℕ, zero, suc, ◌*◌, ◌≤◌, Bool, true, false, cond, ◌↔◌, List, [], ◌∷◌, ◌++◌, map, length, drop, ℤ, IfOk, Ok, Err, Result, sym, refl, ap, ◌∙◌, subst, ap₂, suc-mul, arith}
-use Rattle.std.specs.List.{flat_map, AllByRecursion as All}
+use Rattle.std.specs.List.{flat_map, AllByRecursion}
 use Rattle.std.proofs.lemmas.List.{append_assoc, map-append, length-map, length-drop, length-take-le, take_at, drop_at}
 use Rattle.std.proofs.ByRecursion.{All-weaker}
 use Rattle.kinds.specs.Kinds.{Kind, Lawful}
@@ -13,7 +13,7 @@ use Rattle.elimination.proofs.Written.{Fit, fits, length_rows}
 use Rattle.elimination.specs.declared.solve.EliminationError.{EliminationError}
 use Rattle.elimination.specs.declared.solve.EliminationError.TheVariants.{Sizes}
 
-rows_long : {A : Type 0} (m k : ℕ) (xs : List A) → k * m ≤ length xs → All (λ f. length f ≡ m) (rows_of k m xs)
+rows_long : {A : Type 0} (m k : ℕ) (xs : List A) → k * m ≤ length xs → AllByRecursion (λ f. length f ≡ m) (rows_of k m xs)
 rows_long m zero xs h = tt
 rows_long m (suc k) xs h =
     let e = suc-mul k m in
@@ -24,7 +24,7 @@ module _ {K : Kind} (L : Lawful K) (n : ℕ) where
   back [] = refl
   back (x ∷ w) = ap₂ (λ y v. y ∷ v) (L.counts_written x) (back w)
 
-  rows_back : (P : List K.Num → Type 0) (ws : List (List K.Num)) (rest : List ℤ) → All (λ w. (length w ≡ n) × P w) ws → rows_of (length ws) n (map K.counts (flat_map (map K.writes) ws ++ rest)) ≡ ws
+  rows_back : (P : List K.Num → Type 0) (ws : List (List K.Num)) (rest : List ℤ) → AllByRecursion (λ w. (length w ≡ n) × P w) ws → rows_of (length ws) n (map K.counts (flat_map (map K.writes) ws ++ rest)) ≡ ws
   rows_back P [] rest h = refl
   rows_back P (w ∷ ws) rest h =
       let new = flat_map (map K.writes) ws in
@@ -41,7 +41,7 @@ module _ {K : Kind} (L : Lawful K) (n m : ℕ) (xs old : List ℤ) where
   abbrev accepted : Result ℕ EliminationError × List ℤ → Type 0
   accepted a = IfOk a.0 (λ k. Fit n m (length xs) (length old) × (balances_of K n m xs ≡ Ok (rows_of k n (map K.counts a.1))))
 
-  long : Fit n m (length xs) (length old) → All (λ f. length f ≡ m) fs
+  long : Fit n m (length xs) (length old) → AllByRecursion (λ f. length f ≡ m) fs
   long f = rows_long m n (map K.counts xs) (omega (arith, f.full, length-map xs K.counts))
 
   size : length fs ≡ n
@@ -50,7 +50,7 @@ module _ {K : Kind} (L : Lawful K) (n m : ℕ) (xs old : List ℤ) where
   read_answer : (x : Result (List (List K.Num)) ℕ) → balances_of K n m xs ≡ x → Fit n m (length xs) (length old) → accepted (answered K old x)
   read_answer (Ok ws) e f =
       let s = (shaped L m fs ws (long f) e).0 in
-      let t = subst (λ z. All (λ w. (length w ≡ z) × (any_past K w ≡ false)) ws) size s in
+      let t = subst (λ z. AllByRecursion (λ w. (length w ≡ z) × (any_past K w ≡ false)) ws) size s in
       (f, e ∙ ap Ok (sym (rows_back L n (λ w. any_past K w ≡ false) ws (drop (length (flat_map (map K.writes) ws)) old) t)))
   read_answer (Err b) e f = tt
 

@@ -1,6 +1,6 @@
 -- What the elimination of rows of whole coefficients answers and writes. Assumes nothing.
 use Rattle.std.specs.Prelude.{◌≡◌, ℕ, ◌*◌, ◌≤◌, Bool, false, cond, ◌&&◌, ◌↔◌, List, ◌++◌, map, length, drop, ℤ, Ok, Err, Result, ◌==◌, nat_le}
-use Rattle.std.specs.List.{flat_map, AllByRecursion as All}
+use Rattle.std.specs.List.{flat_map, AllByRecursion}
 use Rattle.kinds.specs.Kinds.{Kind}
 use Rattle.kinds.specs.Elimination.{at, any_past, eliminate}
 use Rattle.kinds.specs.Completeness.{Vanishes, Made}
@@ -30,6 +30,6 @@ solved K n m xs weights =
 -- column; a weighting comes to zero in every column exactly when a nonzero multiple of it is a sum of multiples of them
 pub record Exact (K : Kind) (n m : ℕ) (xs : List ℤ) (k : ℕ) (weights : List ℤ) : Type 0 where
   pub few : k ≤ n
-  pub small : All (λ w. any_past K w ≡ false) (rows_of k n (map K.counts weights))
-  pub sound : All (λ w. Vanishes K m (rows_of n m (map K.counts xs)) (at K w)) (rows_of k n (map K.counts weights))
+  pub small : AllByRecursion (λ w. any_past K w ≡ false) (rows_of k n (map K.counts weights))
+  pub sound : AllByRecursion (λ w. Vanishes K m (rows_of n m (map K.counts xs)) (at K w)) (rows_of k n (map K.counts weights))
   pub exactly : (w : ℕ → K.Num) → Vanishes K m (rows_of n m (map K.counts xs)) w ↔ Made K n (rows_of k n (map K.counts weights)) w

@@ -1,7 +1,7 @@
 -- Worked examples, as one list with one statement over it: small forms; the board of three belts, from its text to what is
 -- printed of it, and its parity balance; and its first ticks.
 use Rattle.std.specs.Prelude.{◌≡◌, ℕ, List, [], ◌∷◌, ◌++◌, map, length, replicate, ℤ, pos, negsuc, Some, Ok, codes, count_by, Option, Result}
-use Rattle.std.specs.List.{range_with_len, flat_map, AllByRecursion as All}
+use Rattle.std.specs.List.{range_with_len, flat_map, AllByRecursion}
 use Rattle.sheet.specs.declared.fault.Fault.{Fault}
 use Rattle.sheet.specs.Loading.{loaded}
 use Rattle.sheet.specs.Nodes.{is_belt}
@@ -95,4 +95,4 @@ examples =
 
 -- every example holds
 abbrev pub AllHold : Type 0
-AllHold = All Holds examples
+AllHold = AllByRecursion Holds examples

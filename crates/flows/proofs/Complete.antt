@@ -1,7 +1,7 @@
 -- From rows to columns and back, and with elimination's theorem: balances of flows are complete, over any kind of number.
 use Rattle.std.proofs.Common.{◌≡◌, ℕ, zero, suc, ◌<◌, ◌≤◌, Bool, true, false, ltb, ◌↔◌, List, [], ◌∷◌, map, length, get_or, ℤ, pos, ◌+ℤ◌, ◌-ℤ◌, ◌*ℤ◌, neg_ℤ, nat_abs, Ok, Err, Result, sym, refl, ap, ◌∙◌, subst, ap₂, true≢false, arith}
 use lib.IntN.{+ℤ_idr}
-use Rattle.std.specs.List.{AllByRecursion as All}
+use Rattle.std.specs.List.{AllByRecursion}
 use Rattle.std.proofs.lemmas.List.{length-map, get_or-map}
 use Rattle.std.proofs.ByRecursion.{All-get_or, All-from_get_or, All-weaker, All-map}
 use Rattle.std.proofs.lemmas.Bool.{or_parts}
@@ -29,7 +29,7 @@ column w [] c = pos 0
 column w (p ∷ ps) c = w zero *ℤ coefficient p c +ℤ column (λ b. w (suc b)) ps c
 
 -- in a row, it comes to the sum over the columns
-comes_spread : (cs : List ℕ) (flows : List Form) (w amount : ℕ → ℤ) (r : ℕ) → Climbs 0 cs → All (Covered cs) flows
+comes_spread : (cs : List ℕ) (flows : List Form) (w amount : ℕ → ℤ) (r : ℕ) → Climbs 0 cs → AllByRecursion (Covered cs) flows
     → ((b : ℕ) → b < length flows → value (get_or flows b []) r ≡ amount b) → comes_to (length flows) w amount ≡ spread (column w flows) cs r
 comes_spread cs [] w amount r c h k = sym (spread_none cs r)
 comes_spread cs (p ∷ ps) w amount r c h k =
@@ -50,10 +50,10 @@ module _ {Z : ℤ → Type 0} (N : Ideal Z) (flows : List Form) (gains : List Bo
       let s = some_row r in
       subst Z (+ℤ_idr _ ∙ as_spread s.0 ∙ ap (spread (column w flows) (columns_of flows)) s.1) (h (s.0 ∷ []))
 
-  pub to_columns : StaysZero Z (length flows) gains w → All (λ c. Z (column w flows c)) (columns_of flows)
+  pub to_columns : StaysZero Z (length flows) gains w → AllByRecursion (λ c. Z (column w flows c)) (columns_of flows)
   to_columns h = spread_back N (column w flows) 0 (columns_of flows) (columns_climb flows) (in_row h)
 
-  pub to_rows : All (λ c. Z (column w flows c)) (columns_of flows) → StaysZero Z (length flows) gains w
+  pub to_rows : AllByRecursion (λ c. Z (column w flows c)) (columns_of flows) → StaysZero Z (length flows) gains w
   to_rows h [] = N.none
   to_rows h (row ∷ rows) = N.both _ _ (subst Z (sym (as_spread row)) (spread_from N (column w flows) (columns_of flows) (row_of row) h)) (to_rows h rows)
 
@@ -158,12 +158,12 @@ module _ {K : Kind} {Z : ℤ → Type 0} (C : CountsZero K Z) where
     rows_many : length rows ≡ length flows
     rows_many = length-map (table flows) (map counts) ∙ length-map flows (λ p. map (coefficient p) (columns_of flows))
 
-    rows_full : All (λ f. length f ≡ length cs) rows
+    rows_full : AllByRecursion (λ f. length f ≡ length cs) rows
     rows_full =
         All-map (λ f. length f ≡ length cs) (map counts) (table flows)
         (All-map (λ f. length (map counts f) ≡ length cs) (λ p. map (coefficient p) cs) flows (full flows))
       where
-        full : (ps : List Form) → All (λ p. length (map counts (map (coefficient p) cs)) ≡ length cs) ps
+        full : (ps : List Form) → AllByRecursion (λ p. length (map counts (map (coefficient p) cs)) ≡ length cs) ps
         full [] = tt
         full (p ∷ ps) = (length-map (map (coefficient p) cs) counts ∙ length-map cs (coefficient p), full ps)
 
@@ -198,7 +198,7 @@ module _ {K : Kind} {Z : ℤ → Type 0} (C : CountsZero K Z) where
         sum = λ b l. sym (L.counts_product m.factor (w b)) ∙ zero_back _ _ (m.sum b (omega (arith, rows_many))) ∙ counts_comb ws m.multiples b;
       }
 
-      small_row : (u : List A) → any_past K u ≡ false → All (λ x. nat_abs x ≤ 1000000) (map writes u)
+      small_row : (u : List A) → any_past K u ≡ false → AllByRecursion (λ x. nat_abs x ≤ 1000000) (map writes u)
       small_row [] h = tt
       small_row (x ∷ u) h = let p = or_parts (K.past x) (any_past K u) h in (C.small x p.0, small_row u p.1)
 

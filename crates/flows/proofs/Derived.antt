@@ -1,7 +1,7 @@
 -- The balances of a sheet's belts are complete, and hold of every count that is a sum of gains.
 use Rattle.std.proofs.Common.{◌≡◌, ℕ, zero, suc, ◌%◌, ◌<◌, ◌≤◌, Bool, true, false, cond, List, [], ◌∷◌, length, ℤ, pos, ◌+ℤ◌, ◌*ℤ◌, nat_abs, Ok, Err, count_by, Result, sym, refl, ap, ◌∙◌, subst, ap₂, true≢false, arith}
 use lib.IntN.{*ℤ-zero}
-use Rattle.std.specs.List.{AllByRecursion as All}
+use Rattle.std.specs.List.{AllByRecursion}
 use Rattle.std.proofs.lemmas.List.FromFn.{length-map-range_with_len}
 use Rattle.std.proofs.ByRecursion.{All-weaker}
 use Rattle.std.proofs.lemmas.Int.{ints}
@@ -92,7 +92,7 @@ module _ {K : Kind} {Z : ℤ → Type 0} (C : CountsZero K Z) (ns : List Node) (
 
   -- each balance comes to zero over counts that are sums of gains
   pub derived_over_counts : (rows : List (List Bool)) (count : ℕ → ℤ) → ((b : ℕ) → b < count_by is_belt ns → count b ≡ over_rows (λ row. gain ns row b) rows)
-      → All (λ u. Z (comes_to (count_by is_belt ns) (weighting u) count)) balances
+      → AllByRecursion (λ u. Z (comes_to (count_by is_belt ns) (weighting u) count)) balances
   derived_over_counts rows count k =
       All-weaker (λ u. StaysZero Z (count_by is_belt ns) (gain ns) (weighting u)) (λ u. Z (comes_to (count_by is_belt ns) (weighting u) count))
       (λ u h. over_counts Z (count_by is_belt ns) (weighting u) (gain ns) h rows count k) balances derived_complete.zeros

@@ -1,7 +1,7 @@
 -- A belt's flow rises, and in every row it comes to the belt's gain.
 use Rattle.std.proofs.Common.{◌≡◌, ℕ, zero, suc, ◌+◌, ◌<◌, Bool, true, false, cond, ◌&&◌, List, [], ◌∷◌, ◌++◌, length, get_or, ℤ, pos, negsuc, ◌+ℤ◌, ◌-ℤ◌, ◌*ℤ◌, count_by, sym, refl, ap, ◌∙◌, subst, ap₂, arith}
 use lib.IntN.{+ℤ_idl}
-use Rattle.std.specs.List.{AllByRecursion as All}
+use Rattle.std.specs.List.{AllByRecursion}
 use Rattle.std.proofs.lemmas.List.FromFn.{length-map-range_with_len, get_or-map-range_with_len}
 use Rattle.std.proofs.ByRecursion.{All-from_get_or}
 use Rattle.std.proofs.lemmas.List.{length_push}
@@ -31,7 +31,7 @@ flows_rise ns b =
     let p = ports_of ns b in
     add_all_rising (and_form (form p.offer) (form p.room)) (scaled 0 (negsuc 0) (and_form (form p.take) (form p.item))) (and_rises (form p.offer) (form p.room))
 
-pub all_flows_rise : (ns : List Node) → All (Rising 0) (flows_of ns)
+pub all_flows_rise : (ns : List Node) → AllByRecursion (Rising 0) (flows_of ns)
 all_flows_rise ns =
     let n = count_by is_belt ns in
     All-from_get_or (Rising 0) (flows_of ns) []

@@ -1,6 +1,6 @@
 -- The columns of flows rise, hold every term, and grow in number.
 use Rattle.std.proofs.Common.{◌≡◌, ℕ, suc, ◌≤◌, cond, ltb, ◌⊎◌, List, [], ◌∷◌, length, refl, inl, inr, arith}
-use Rattle.std.specs.List.{AllByRecursion as All}
+use Rattle.std.specs.List.{AllByRecursion}
 use Rattle.std.proofs.ByRecursion.{All-weaker}
 use Rattle.std.proofs.lemmas.Bool.{cond_both, ltb-true, ltb-false}
 use Rattle.terms.specs.Forms.{Form}
@@ -18,7 +18,7 @@ In s (c ∷ cs) = (c ≡ s) ⊎ In s cs
 
 -- every term of a form is a column
 abbrev pub Covered : List ℕ → Form → Type 0
-Covered cs p = All (λ t. In t.0 cs) p
+Covered cs p = AllByRecursion (λ t. In t.0 cs) p
 
 pub least : (s lo : ℕ) (cs : List ℕ) → Climbs lo cs → In s cs → lo ≤ s
 least s lo [] w h = absurd h
@@ -87,7 +87,7 @@ pub forms_old : (x : ℕ) (cs : List ℕ) (ps : List Form) → In x cs → In x 
 forms_old x cs [] h = h
 forms_old x cs (p ∷ ps) h = forms_old x (with_form cs p) ps (form_old x cs p h)
 
-pub forms_new : (cs : List ℕ) (ps : List Form) → All (Covered (with_forms cs ps)) ps
+pub forms_new : (cs : List ℕ) (ps : List Form) → AllByRecursion (Covered (with_forms cs ps)) ps
 forms_new cs [] = tt
 forms_new cs (p ∷ ps) =
     let ds = with_form cs p in
@@ -102,5 +102,5 @@ pub columns_climb : (flows : List Form) → Climbs 0 (columns_of flows)
 columns_climb flows = forms_climb [] flows tt
 
 -- the columns cover every flow
-pub columns_cover : (flows : List Form) → All (Covered (columns_of flows)) flows
+pub columns_cover : (flows : List Form) → AllByRecursion (Covered (columns_of flows)) flows
 columns_cover flows = forms_new [] flows

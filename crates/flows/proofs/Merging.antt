@@ -1,7 +1,7 @@
 -- Columns and a rising form, walked together, give the form's coefficients in the columns.
 use Rattle.std.proofs.Common.{◌≡◌, ℕ, suc, ◌<◌, ◌≤◌, Bool, eqb, List, [], ◌∷◌, map, length, get_or, ℤ, pos, ◌+ℤ◌, sym, refl, ap, ◌∙◌, subst, ap₂, inl, inr, arith}
 use lib.IntN.{+ℤ_idr, +ℤ_idl}
-use Rattle.std.specs.List.{AllByRecursion as All}
+use Rattle.std.specs.List.{AllByRecursion}
 use Rattle.std.proofs.lemmas.List.{get_or-map}
 use Rattle.std.proofs.lemmas.Bool.{cond_both, eqb-true, eqb-false, ne_eqb}
 use Rattle.terms.specs.Forms.{Form, Rising}
@@ -52,13 +52,13 @@ merged_is lo (d ∷ cs) (t ∷ p) c w k =
     above (inl e) ne = absurd (ne (sym e))
     above (inr x) ne = least t.0 (suc d) cs c.1 x
 
-each_merged : (cs : List ℕ) (ps : List Form) → Climbs 0 cs → All (Rising 0) ps → All (Covered cs) ps → map (merged cs) ps ≡ map (λ p. map (coefficient p) cs) ps
+each_merged : (cs : List ℕ) (ps : List Form) → Climbs 0 cs → AllByRecursion (Rising 0) ps → AllByRecursion (Covered cs) ps → map (merged cs) ps ≡ map (λ p. map (coefficient p) cs) ps
 each_merged cs [] c w k = refl
 each_merged cs (p ∷ ps) c w k = ap₂ (λ (z : List ℤ) (zs : List (List ℤ)). z ∷ zs) (merged_is 0 cs p c w.0 k.0) (each_merged cs ps c w.1 k.1)
 
 -- of rising flows, the rows of coefficients
-pub merges : (flows : List Form) → All (Rising 0) flows → map (merged (columns_of flows)) flows ≡ table flows
+pub merges : (flows : List Form) → AllByRecursion (Rising 0) flows → map (merged (columns_of flows)) flows ≡ table flows
 merges flows w = each_merged (columns_of flows) flows (columns_climb flows) w (columns_cover flows)
 
-pub merges_at : (flows : List Form) (b : ℕ) → b < length flows → All (Rising 0) flows → merged (columns_of flows) (get_or flows b []) ≡ get_or (table flows) b []
+pub merges_at : (flows : List Form) (b : ℕ) → b < length flows → AllByRecursion (Rising 0) flows → merged (columns_of flows) (get_or flows b []) ≡ get_or (table flows) b []
 merges_at flows b l w = sym (get_or-map (merged (columns_of flows)) flows b [] [] l) ∙ ap (λ (rows : List (List ℤ)). get_or rows b []) (merges flows w)

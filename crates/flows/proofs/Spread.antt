@@ -1,7 +1,7 @@
 -- A sum over columns, each counted in the rows where its wires are all high.
 use Rattle.std.proofs.Common.{◌≡◌, ℕ, suc, ◌<◌, Bool, true, false, eqb, List, [], ◌∷◌, ℤ, pos, ◌+ℤ◌, ◌*ℤ◌, sym, refl, ap, ◌∙◌, subst, ap₂, inl, inr, arith}
 use lib.IntN.{+ℤ_idr, +ℤ_idl, *ℤ-zero}
-use Rattle.std.specs.List.{AllByRecursion as All}
+use Rattle.std.specs.List.{AllByRecursion}
 use Rattle.std.proofs.lemmas.Int.{ints}
 use Rattle.std.proofs.lemmas.Bool.{eq-eqb, ne_eqb}
 use Rattle.terms.specs.Forms.{Form, high, value}
@@ -95,12 +95,12 @@ module _ {Z : ℤ → Type 0} (N : Ideal Z) (f : ℕ → ℤ) where
   share_zero false x h = N.none
 
   -- zero in every column is zero in every row
-  pub spread_from : (cs : List ℕ) (r : ℕ) → All (λ c. Z (f c)) cs → Z (spread f cs r)
+  pub spread_from : (cs : List ℕ) (r : ℕ) → AllByRecursion (λ c. Z (f c)) cs → Z (spread f cs r)
   spread_from [] r h = N.none
   spread_from (c ∷ cs) r h = N.both _ _ (share_zero (high c r) (f c) h.0) (spread_from cs r h.1)
 
   -- zero in each column's own row is zero in every column
-  pub spread_back : (lo : ℕ) (cs : List ℕ) → Climbs lo cs → ((r : ℕ) → Z (spread f cs r)) → All (λ c. Z (f c)) cs
+  pub spread_back : (lo : ℕ) (cs : List ℕ) → Climbs lo cs → ((r : ℕ) → Z (spread f cs r)) → AllByRecursion (λ c. Z (f c)) cs
   spread_back lo [] w h = tt
   spread_back lo (c ∷ cs) w h =
       let here : Z (f c) = subst Z (lowest f lo c cs w) (h c) in

@@ -1,6 +1,6 @@
 -- What derived balances are, in words of wire rows: none is false, and none is missing. Assumes nothing.
 use Rattle.std.specs.Prelude.{◌≡◌, ℕ, zero, suc, ◌%◌, ◌<◌, ◌≤◌, Bool, ◌↔◌, List, [], ◌∷◌, length, ℤ, pos, ◌+ℤ◌, ◌-ℤ◌, ◌*ℤ◌, Ok, slice_index_or, unsigned_abs}
-use Rattle.std.specs.List.{AllByRecursion as All}
+use Rattle.std.specs.List.{AllByRecursion}
 use Rattle.sheet.specs.declared.node.Node.{Node}
 use Rattle.sheet.specs.Wires.{bit, row_enters, row_leaves}
 use Rattle.terms.specs.Forms.{Form, value, row_of}
@@ -51,9 +51,9 @@ pub record Made (Z : ℤ → Type 0) (n : ℕ) (balances : List (List ℤ)) (w :
 -- each; none is false, since each stays zero; and none is missing: a weighting stays zero exactly when it is made from them
 pub record Complete (Z : ℤ → Type 0) (n : ℕ) (gains : List Bool → ℕ → ℤ) (balances : List (List ℤ)) : Type 0 where
   pub few : length balances ≤ n
-  pub sized : All (λ u. length u ≡ n) balances
-  pub small : All (All (λ x. unsigned_abs x ≤ 1000000)) balances
-  pub zeros : All (λ u. StaysZero Z n gains (weighting u)) balances
+  pub sized : AllByRecursion (λ u. length u ≡ n) balances
+  pub small : AllByRecursion (AllByRecursion (λ x. unsigned_abs x ≤ 1000000)) balances
+  pub zeros : AllByRecursion (λ u. StaysZero Z n gains (weighting u)) balances
   pub exactly : (w : ℕ → ℤ) → StaysZero Z n gains w ↔ Made Z n balances w
 
 -- the flows count the gains: in every row each comes to the gain of its quantity

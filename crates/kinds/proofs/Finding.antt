@@ -1,7 +1,7 @@
 -- Elimination finds every balance. Assumes nothing.
 use Rattle.std.proofs.Common.{◌≡◌, ℕ, zero, suc, ◌+◌, ◌<◌, ◌≤◌, Bool, true, false, cond, ◌≢◌, ◌↔◌, List, [], ◌∷◌, ◌++◌, length, get_or, take, replicate, Ok, Err, Result, sym, refl, ap, ◌∙◌, subst, ap₂, inl, inr, arith}
 use native.Mathlib.Nat as NatL
-use Rattle.std.specs.List.{AllByRecursion as All}
+use Rattle.std.specs.List.{AllByRecursion}
 use Rattle.kinds.specs.Kinds.{Kind, Lawful}
 use Rattle.kinds.specs.Elimination.{at, unit, starts, any_past, Handled, kept, balance, passes}
 use Rattle.kinds.proofs.Filing.{put, filed_handled, by_case, with_balance, filed_eliminated, filed_eliminate}
@@ -85,7 +85,7 @@ module _ {K : Kind} (L : Lawful K) where
       ap₂ (λ u i. (w zero ⊗ u) ⊕ comb K (λ k. w (suc k)) (starts K n (suc b) fs) i) (unit_other n b (b + suc k) f (omega arith) (omega arith)) z
       ∙ zero_more L _ _ ∙ starts_at n (suc b) (λ k. w (suc k)) fs k (omega arith) (omega arith)
 
-  starts_law : (fs : List (List A)) (b : ℕ) (gs : List (List A)) → ((k : ℕ) → get_or gs k [] ≡ get_or fs (b + k) []) → All (Law K (length fs) fs) (starts K (length fs) b gs)
+  starts_law : (fs : List (List A)) (b : ℕ) (gs : List (List A)) → ((k : ℕ) → get_or gs k [] ≡ get_or fs (b + k) []) → AllByRecursion (Law K (length fs) fs) (starts K (length fs) b gs)
   starts_law fs b [] h = tt
   starts_law fs b (g ∷ gs) h =
       let z : b + 0 ≡ b = omega arith in
@@ -122,7 +122,7 @@ module _ {K : Kind} (L : Lawful K) (n m : ℕ) (fs : List (List K.Num)) where
 
   abbrev Runs : List (List A) → Type 0
   Runs rs =
-      (rows : List (List A)) (b : ℕ) (ws : List (List A)) → Filed K n rows → ((j : ℕ) → Law K n fs (get_or rows j [])) → length rows ≤ m → All (Law K n fs) rs
+      (rows : List (List A)) (b : ℕ) (ws : List (List A)) → Filed K n rows → ((j : ℕ) → Law K n fs (get_or rows j [])) → length rows ≤ m → AllByRecursion (Law K n fs) rs
       → filed_eliminated K n m rows b rs ≡ Ok ws → Run K n m fs rows rs ws
 
   run_step : (r : List A) (rs : List (List A)) → Runs rs → Runs (r ∷ rs)
@@ -158,7 +158,7 @@ module _ {K : Kind} (L : Lawful K) (m : ℕ) (fs : List (List K.Num)) where
   abbrev n : ℕ
   n = length fs
 
-  pub run_sound : {rows rs ws : List (List A)} → Run K n m fs rows rs ws → All (λ w. Vanishes K m fs (at K w)) ws
+  pub run_sound : {rows rs ws : List (List A)} → Run K n m fs rows rs ws → AllByRecursion (λ w. Vanishes K m fs (at K w)) ws
   run_sound (done f s) = tt
   run_sound (keeps j q r e k) = run_sound k
   run_sound (finds q r z law k) = (λ j h. comb_below L (at K (take n q)) (at K q) fs j (λ i l. at_take L n i q l) ∙ sym (law j) ∙ z j h, run_sound k)
@@ -218,7 +218,7 @@ module _ {K : Kind} (L : Lawful K) where
       run L (length fs) m fs (starts K (length fs) 0 fs) [] 0 ws (λ j. inl refl) (λ j i. sym (comb_none L fs i)) (omega arith)
       (starts_law L fs 0 fs (λ k. ap (λ x. get_or fs x []) (sym (NatL.zero-add k)))) e
 
-  pub filed_sound : (m : ℕ) (fs ws : List (List A)) → filed_eliminate K m fs ≡ Ok ws → All (λ w. Vanishes K m fs (at K w)) ws
+  pub filed_sound : (m : ℕ) (fs ws : List (List A)) → filed_eliminate K m fs ≡ Ok ws → AllByRecursion (λ w. Vanishes K m fs (at K w)) ws
   filed_sound m fs ws e = run_sound L m fs (the_run m fs ws e)
 
   filed_complete : (m : ℕ) (fs ws : List (List A)) → filed_eliminate K m fs ≡ Ok ws → (w : ℕ → A) → Vanishes K m fs w → Made K (length fs) ws w
@@ -237,7 +237,7 @@ module _ {K : Kind} (L : Lawful K) (m : ℕ) (fs : List (List K.Num)) where
 
   infixl 6 ◌⊕◌
   infixl 7 ◌⊗◌
-  sums_vanish : (ws : List (List A)) → All (λ w. Vanishes K m fs (at K w)) ws → (x : ℕ → A) (j : ℕ) → j < m → comb K (λ b. comb K x ws b) fs j ≡ 𝟘
+  sums_vanish : (ws : List (List A)) → AllByRecursion (λ w. Vanishes K m fs (at K w)) ws → (x : ℕ → A) (j : ℕ) → j < m → comb K (λ b. comb K x ws b) fs j ≡ 𝟘
   sums_vanish [] all x j h = comb_none L fs j
   sums_vanish (w ∷ ws) all x j h =
       let x' : ℕ → A = λ k. x (suc k) in
@@ -245,7 +245,7 @@ module _ {K : Kind} (L : Lawful K) (m : ℕ) (fs : List (List K.Num)) where
       ∙ comb_lin L (x zero) (at K w) 𝟙 (λ b. comb K x' ws b) fs j
       ∙ ap₂ (λ y z. (x zero ⊗ y) ⊕ (𝟙 ⊗ z)) (all.0 j h) (sums_vanish ws all.1 x' j h) ∙ zero_more L _ _ ∙ mul_zero L _
 
-  pub made_vanishes : (ws : List (List A)) → All (λ w. Vanishes K m fs (at K w)) ws → (w : ℕ → A) → Made K (length fs) ws w → Vanishes K m fs w
+  pub made_vanishes : (ws : List (List A)) → AllByRecursion (λ w. Vanishes K m fs (at K w)) ws → (w : ℕ → A) → Made K (length fs) ws w → Vanishes K m fs w
   made_vanishes ws all w made j h =
       L.no_divisors made.factor _
       (sym (comb_scale L m fs made.factor w fs j) ∙ comb_below L (λ b. made.factor ⊗ w b) (λ b. comb K made.multiples ws b) fs j made.sum ∙ sums_vanish ws all made.multiples j h)

@@ -1,7 +1,7 @@
 -- The shape of what elimination answers: lengths and the limit. Assumes nothing.
 use Rattle.std.proofs.Common.{◌≡◌, ℕ, zero, suc, ◌+◌, ◌≤◌, Bool, true, false, ◌||◌, ◌≢◌, ◌⊎◌, List, [], ◌∷◌, map, length, get_or, take, replicate, Ok, Err, Result, sym, refl, ap, ◌∙◌, subst, ap₂, inl, inr, true≢false, arith}
 use Rattle.std.proofs.lemmas.List.{length-append, length-map, length-set, length-replicate}
-use Rattle.std.specs.List.{AllByRecursion as All}
+use Rattle.std.specs.List.{AllByRecursion}
 use Rattle.std.proofs.lemmas.Bool.{cond_both}
 use Rattle.kinds.specs.Kinds.{Kind, Lawful}
 use Rattle.kinds.specs.Elimination.{at, less, divisor_from, stepped, negated_if, leads_below, unit, starts, any_past, Handled, kept, balance, passes}
@@ -21,7 +21,7 @@ module _ {K : Kind} (L : Lawful K) where
   length_unit : (n b : ℕ) → length (unit K n b) ≡ n
   length_unit n b = length-set (replicate n 𝟘) b K.one ∙ length-replicate n 𝟘
 
-  starts_sized : (n m b : ℕ) (fs : List (List A)) → All (λ f. length f ≡ m) fs → All (λ r. length r ≡ n + m) (starts K n b fs)
+  starts_sized : (n m b : ℕ) (fs : List (List A)) → AllByRecursion (λ f. length f ≡ m) fs → AllByRecursion (λ r. length r ≡ n + m) (starts K n b fs)
   starts_sized n m b [] all = tt
   starts_sized n m b (f ∷ fs) all = (length-append (unit K n b) f ∙ ap₂ (λ x y. x + y) (length_unit n b) all.0, starts_sized n m (suc b) fs all.1)
 
@@ -100,7 +100,7 @@ module _ {K : Kind} (L : Lawful K) where
 
   -- the weights of the Ok
   abbrev Weights : ℕ → ℕ → Result (List (List A)) ℕ → Type 0
-  Weights n l (Ok ws) = All (Fit n) ws × (length ws ≤ l)
+  Weights n l (Ok ws) = AllByRecursion (Fit n) ws × (length ws ≤ l)
   Weights n l (Err b) = Unit {0}
 
   weights_more : (n l : ℕ) (a : Result (List (List A)) ℕ) → Weights n l a → Weights n (suc l) a
@@ -112,7 +112,7 @@ module _ {K : Kind} (L : Lawful K) where
   weights_with n l q (Err b) f w = tt
 
   abbrev Shapes : ℕ → ℕ → List (List A) → Type 0
-  Shapes n m rs = (rows : List (List A)) (b : ℕ) → Slots (n + m) rows → All (λ r. length r ≡ n + m) rs → Weights n (length rs) (filed_eliminated K n m rows b rs)
+  Shapes n m rs = (rows : List (List A)) (b : ℕ) → Slots (n + m) rows → AllByRecursion (λ r. length r ≡ n + m) rs → Weights n (length rs) (filed_eliminated K n m rows b rs)
 
   shape_step : (n m : ℕ) (r : List A) (rs : List (List A)) → Shapes n m rs → Shapes n m (r ∷ rs)
   unfolding filed_eliminated Slots
@@ -137,7 +137,7 @@ module _ {K : Kind} (L : Lawful K) where
   unfolding Slots
   no_slots N j = inl refl
 
-  pub filed_shaped : (m : ℕ) (fs ws : List (List A)) → All (λ f. length f ≡ m) fs → filed_eliminate K m fs ≡ Ok ws → All (λ w. (length w ≡ length fs) × (any_past K w ≡ false)) ws × (length ws ≤ length fs)
+  pub filed_shaped : (m : ℕ) (fs ws : List (List A)) → AllByRecursion (λ f. length f ≡ m) fs → filed_eliminate K m fs ≡ Ok ws → AllByRecursion (λ w. (length w ≡ length fs) × (any_past K w ≡ false)) ws × (length ws ≤ length fs)
   unfolding filed_eliminate
   filed_shaped m fs ws all e =
       let n : ℕ = length fs in

@@ -1,6 +1,6 @@
 -- What elimination gives, in words that do not name its steps. Assumes nothing.
 use Rattle.std.specs.Prelude.{◌≡◌, ℕ, zero, suc, ◌<◌, ◌≤◌, false, ◌≢◌, ◌↔◌, List, [], ◌∷◌, length, Ok}
-use Rattle.std.specs.List.{AllByRecursion as All}
+use Rattle.std.specs.List.{AllByRecursion}
 use Rattle.kinds.specs.Kinds.{Kind}
 use Rattle.kinds.specs.Elimination.{at, stepped, any_past, eliminate}
 
@@ -24,7 +24,7 @@ pub record Made (K : Kind) (n : ℕ) (ws : List (List K.Num)) (w : ℕ → K.Num
 abbrev pub Sound : Kind → Type 0
 Sound K =
     (m : ℕ) (fs ws : List (List K.Num)) → eliminate K m fs ≡ Ok ws
-    → All (λ w. Vanishes K m fs (at K w)) ws
+    → AllByRecursion (λ w. Vanishes K m fs (at K w)) ws
 
 -- a weighting comes to zero in every column exactly when a nonzero multiple of it is a sum of multiples of the balances
 abbrev pub Exactly : Kind → Type 0
@@ -35,8 +35,8 @@ Exactly K =
 -- the balances are no more than the rows, and have a weight for each row, within the limit
 abbrev pub Shaped : Kind → Type 0
 Shaped K =
-    (m : ℕ) (fs ws : List (List K.Num)) → All (λ f. length f ≡ m) fs → eliminate K m fs ≡ Ok ws
-    → All (λ w. (length w ≡ length fs) × (any_past K w ≡ false)) ws × (length ws ≤ length fs)
+    (m : ℕ) (fs ws : List (List K.Num)) → AllByRecursion (λ f. length f ≡ m) fs → eliminate K m fs ≡ Ok ws
+    → AllByRecursion (λ w. (length w ≡ length fs) × (any_past K w ≡ false)) ws × (length ws ≤ length fs)
 
 -- a step against a kept row that is not zero at place i leaves zero there, and leaves zero where both rows are zero:
 -- so a step makes the row's lowest term higher, and to look at the columns upwards is to look for the lowest term again

@@ -6,7 +6,8 @@ use Rattle.std.proofs.lemmas.List.{at_drop_more, length-append, get_or_past}
 use Rattle.std.proofs.lemmas.List.Sums.{sum_by-cons, sum_by-take-drop}
 use Rattle.sheet.specs.Nodes.{is_bit_of}
 use Rattle.sheet.proofs.Counting.{byte_le}
-use Rattle.line.specs.Words.{Option, Some, None, Node, Free, Belt, Gate, Sensor, Flop, Room, Item, Bit}
+use Rattle.std.specs.Prelude.{Option, Some, None}
+use Rattle.line.specs.Words.{Node, Free, Belt, Gate, Sensor, Flop, Room, Item, Bit}
 use Rattle.line.specs.Lines.{word_of}
 use Rattle.line.specs.Moving.{with_bit}
 use Rattle.line.specs.Parts.{listed, entering_of, bits_of}

@@ -5,7 +5,8 @@ use Rattle.std.proofs.lemmas.List.{at_drop_more, at_drop_all, take_more_set, app
 use Rattle.std.proofs.lemmas.List.Sums.{sum_by-cons}
 use Rattle.sheet.specs.declared.class.Class.TheVariants as Of
 use Rattle.sheet.specs.Nodes.{is_belt, is_of, count_of, belts_of}
-use Rattle.line.specs.Words.{Option, Some, None, Node, Free, Belt, Gate, Sensor, Flop, Room, Item, Bit}
+use Rattle.std.specs.Prelude.{Option, Some, None}
+use Rattle.line.specs.Words.{Node, Free, Belt, Gate, Sensor, Flop, Room, Item, Bit}
 use Rattle.line.specs.Parts.{listed, driver_of, drivers_of, offer_and_take}
 use Rattle.line.specs.Moving.{value_of, next_of}
 

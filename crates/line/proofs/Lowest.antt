@@ -4,7 +4,7 @@ use Rattle.std.proofs.lemmas.Bool.{cond-true, cond-false}
 use Rattle.std.proofs.lemmas.List.{at_drop_more, at_drop_all}
 use Rattle.belts.specs.Belts.{Model}
 use Rattle.banks.specs.Banks.{absent, numbered}
-use Rattle.line.specs.Words.{Some, None}
+use Rattle.std.specs.Prelude.{Some, None}
 use Rattle.line.specs.Lines.{lowest_belt}
 
 module _ (p : ℕ → Model → Bool) (ms : List Model) (b : ℕ) where

@@ -4,7 +4,9 @@ use Rattle.std.proofs.lemmas.List.{get_or_append_left}
 use Rattle.belts.specs.Belts.{Model, roomy, head_of}
 use Rattle.banks.specs.Banks.{numbered}
 use Rattle.sheet.specs.Wires.{settled, enters, leaves}
-use Rattle.line.specs.Words.{Node, Ok, option_is_some}
+use Rattle.std.specs.Prelude.{Ok}
+use Rattle.std.specs.Option.{is_some}
+use Rattle.line.specs.Words.{Node}
 use Rattle.line.specs.Parts.{belt_count, bits_of}
 use Rattle.line.specs.Lines.{State, Step, row_from, wires_now, enters_now, leaves_now, event_bytes, how_many, word_of, moved, each, ticked, tick_step}
 use Rattle.line.specs.Moving.{belts_moved, moved_by}
@@ -21,7 +23,7 @@ module _ (s : State) (sensors : List ℕ) (L : List Node) (F W : List Bool) (el 
     enter l w = enters l w (λ c. roomy (numbered s.bank c))
 
     abbrev leave : List Node → List Bool → ℕ → Bool
-    leave l w = leaves l w (λ c. option_is_some (head_of (numbered s.bank c)))
+    leave l w = leaves l w (λ c. is_some (head_of (numbered s.bank c)))
 
     pub bytes_are : (mem mem' : List ℕ) → mem' ≡ event_bytes (enter L W) (leave L W) (belt_count L) ++ drop (2 * belt_count L) mem → mem' ≡ event_bytes (enters_now s sensors) (leaves_now s sensors) (belt_count s.sheet) ++ drop (2 * belt_count s.sheet) mem
     bytes_are mem mem' e =

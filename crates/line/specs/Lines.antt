@@ -1,5 +1,7 @@
 -- A line over a bank: what mounting, ticking, clearing and reading do.
-use Rattle.line.specs.Words.{ℕ, zero, suc, ◌+◌, ◌*◌, ◌/◌, ◌%◌, ◌^◌, Bool, true, false, cond, not, ◌&&◌, ◌||◌, eqb, ltb, List, [], ◌∷◌, ◌++◌, map, length, get_or, drop, replicate, countBy, Option, Some, None, option_is_some, Result, Ok, Err, Node, Free, Belt, Gate, Source, Sensor, Flop, Room, Item, Bit, Fault, Model}
+use Rattle.std.specs.Prelude.{ℕ, zero, suc, ◌+◌, ◌*◌, ◌/◌, ◌%◌, ◌^◌, Bool, true, false, cond, not, ◌&&◌, ◌||◌, eqb, ltb, List, [], ◌∷◌, ◌++◌, map, length, get_or, drop, replicate, count_by, Option, Some, None, Result, Ok, Err}
+use Rattle.std.specs.Option.{is_some}
+use Rattle.line.specs.Words.{Node, Free, Belt, Gate, Source, Sensor, Flop, Room, Item, Bit, Fault, Model}
 use Rattle.sheet.specs.declared.fault.Refusal.TheVariants.{BeltsDiffer, NarrowBelt, LadenBelt, NoSheet, WrongSensors, ShortEvents}
 use Rattle.sheet.specs.declared.class.Class.TheVariants as Of
 use Rattle.sheet.specs.Refusals.{refuse_if, refuse_at}
@@ -42,11 +44,11 @@ lowest_belt p b (m ∷ ms) = cond (p b m) (Some b) (lowest_belt p (suc b) ms)
 
 -- the lowest belt whose width is below its number of d lines
 abbrev pub narrow : List Node → List Model → Option ℕ
-narrow ns bank = lowest_belt (λ b m. ltb m.width (countBy (is_bit_of b) ns)) 0 bank
+narrow ns bank = lowest_belt (λ b m. ltb m.width (count_by (is_bit_of b) ns)) 0 bank
 
 -- the lowest belt that holds a word
 abbrev pub laden : List Model → Option ℕ
-laden bank = lowest_belt (λ b m. option_is_some (head_of m)) 0 bank
+laden bank = lowest_belt (λ b m. is_some (head_of m)) 0 bank
 
 -- mounting: as many belts, each as wide as it has d lines, and none with a word
 abbrev pub mount_test : List Model → List Node → Result (Unit {0}) Fault
@@ -85,7 +87,7 @@ abbrev pub free_value : List Model → List Bool → List ℕ → ℕ → Source
 free_value bank flops sensors k Sensor = eqb (get_or sensors k 0) 1
 free_value bank flops sensors k (Flop d) = get_or flops k false
 free_value bank flops sensors k (Room b) = roomy (numbered bank b)
-free_value bank flops sensors k (Item b) = option_is_some (head_of (numbered bank b))
+free_value bank flops sensors k (Item b) = is_some (head_of (numbered bank b))
 free_value bank flops sensors k (Bit b e) = head_bit k (head_of (numbered bank b))
 
 -- the values of the free wires among some lines, after the lines before them
@@ -108,7 +110,7 @@ abbrev pub enters_now : State → List ℕ → ℕ → Bool
 enters_now s sensors b = enters s.sheet (wires_now s sensors) (λ c. roomy (numbered s.bank c)) b
 
 abbrev pub leaves_now : State → List ℕ → ℕ → Bool
-leaves_now s sensors b = leaves s.sheet (wires_now s sensors) (λ c. option_is_some (head_of (numbered s.bank c))) b
+leaves_now s sensors b = leaves s.sheet (wires_now s sensors) (λ c. is_some (head_of (numbered s.bank c))) b
 
 -- the word of the entering bits, bit 0 first; other bits are 0
 abbrev pub word_of : List Bool → List ℕ → ℕ

@@ -1,5 +1,6 @@
 -- What single lines give a tick (the next value of a flop, a bit of the word that enters a belt), and what event bytes move.
-use Rattle.line.specs.Words.{ℕ, ◌+◌, ◌*◌, Bool, false, cond, eqb, List, map, get_or, Option, Some, None, Node, Model}
+use Rattle.std.specs.Prelude.{ℕ, ◌+◌, ◌*◌, Bool, false, cond, eqb, List, map, get_or, Option, Some, None}
+use Rattle.line.specs.Words.{Node, Model}
 use Rattle.belts.specs.Belts.{putting, taking}
 use Rattle.banks.specs.Banks.{altered}
 use Rattle.sheet.specs.Wires.{bit}

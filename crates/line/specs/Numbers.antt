@@ -1,6 +1,7 @@
 -- What the running numbers of sensors, flops and bit lines tell.
 use Rattle.std.specs.Prelude.{◌≡◌, ◌<◌}
-use Rattle.line.specs.Words.{ℕ, ◌+◌, Bool, false, List, get_or, countBy, Node, Free, Belt, Gate, Source, Sensor, Flop, Room, Item, Bit, Model}
+use Rattle.std.specs.Prelude.{ℕ, ◌+◌, Bool, false, List, get_or, count_by}
+use Rattle.line.specs.Words.{Node, Free, Belt, Gate, Source, Sensor, Flop, Room, Item, Bit, Model}
 use Rattle.sheet.specs.declared.class.Class.TheVariants as Of
 use Rattle.sheet.specs.Nodes.{is_of, count_of, is_bit_of}
 use Rattle.sheet.specs.Wires.{bit, gate_value}
@@ -11,7 +12,7 @@ use Rattle.line.specs.Lines.{free_value}
 pub record Numbered (ns : List Node) (n : Numbers) : Type 0 where
   pub sensors : n.sensors ≡ count_of Of.Sensor ns
   pub flops : n.flops ≡ count_of Of.Flop ns
-  pub bits : (b : ℕ) → b < 32 → get_or n.bits b 0 ≡ countBy (is_bit_of b) ns
+  pub bits : (b : ℕ) → b < 32 → get_or n.bits b 0 ≡ count_by (is_bit_of b) ns
 
 -- one line more
 pub record Added (x : Node) (n more : Numbers) : Type 0 where

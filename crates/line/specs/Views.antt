@@ -1,5 +1,6 @@
 -- What a line stands for.
-use Rattle.line.specs.Words.{List, take, Model}
+use Rattle.std.specs.Prelude.{List, take}
+use Rattle.line.specs.Words.{Model}
 use Rattle.sheet.specs.declared.class.Class.TheVariants as Of
 use Rattle.sheet.specs.Nodes.{count_of}
 use Rattle.sheet.specs.Views.{nodes_in}

@@ -1,6 +1,6 @@
 -- A printed list is read back as it was.
 use Rattle.std.proofs.Common.{◌≡◌, ℕ, zero, suc, ◌+◌, ◌^◌, ◌<◌, ◌≤◌, Bool, true, false, ltb, leb, List, [], ◌∷◌, ◌++◌, map, length, take, drop, ℤ, pos, negsuc, neg_ℤ, IfOk, Some, Ok, Err, decimal, Result, sym, refl, ap, ◌∙◌, subst, ap₂, arith}
-use Rattle.std.specs.List.{range_with_len, flat_map, AllByRecursion as All}
+use Rattle.std.specs.List.{range_with_len, flat_map, AllByRecursion}
 use Rattle.std.specs.Option.{option_map}
 use Rattle.std.specs.Fmt.{signed_decimal}
 use Rattle.std.proofs.lemmas.Bool.{and_parts, and_from, lt-ltb, leb-true, ltb-false, ne_eqb, cond-false}
@@ -42,7 +42,7 @@ bare_some : (w : List ℕ) (ws : List (List ℕ)) → 0 < length w → 0 < lengt
 bare_some w [] h = h
 bare_some w (v ∷ ws) h = omega (arith, length-append w (32 ∷ bare (v ∷ ws)))
 
-bare_unbroken : (ws : List (List ℕ)) → All Word ws → past 10 (bare ws) ≡ true
+bare_unbroken : (ws : List (List ℕ)) → AllByRecursion Word ws → past 10 (bare ws) ≡ true
 bare_unbroken [] h = refl
 bare_unbroken (w ∷ []) h = h.0.plain 10 (omega arith)
 bare_unbroken (w ∷ v ∷ ws) h = past_append 10 w (32 ∷ bare (v ∷ ws)) (h.0.plain 10 (omega arith)) (bare_unbroken (v ∷ ws) h.1)
@@ -51,7 +51,7 @@ words_fields : (x : List ℕ) → 0 < length x → words_of x ≡ fields_of x
 words_fields [] h = absurd (omega arith)
 words_fields (b ∷ bs) h = refl
 
-words_bare : (ws : List (List ℕ)) → All Word ws → words_of (bare ws) ≡ ws
+words_bare : (ws : List (List ℕ)) → AllByRecursion Word ws → words_of (bare ws) ≡ ws
 words_bare [] h = refl
 words_bare (w ∷ ws) h =
     words_fields (bare (w ∷ ws)) (bare_some w ws h.0.some) ∙ parted_ended 32 [] (bare (w ∷ ws)) ∙ ap (ended 32 []) (bare_joined w ws)
@@ -92,7 +92,7 @@ weight_word : (z : ℤ) → is_large z ≡ false → Word (signed_decimal z)
 weight_word (pos n) h = let l = ltb-false 1000000 n h in decimal_word n (omega arith)
 weight_word (negsuc n) h = let l = ltb-false 1000000 (suc n) h in word_after_byte 45 (decimal (suc n)) (omega arith) (decimal_word (suc n) (omega arith))
 
-names_words : (a n : ℕ) → a + n ≤ 32 → All Word (map name_of (range_with_len a n))
+names_words : (a n : ℕ) → a + n ≤ 32 → AllByRecursion Word (map name_of (range_with_len a n))
 names_words a zero h = tt
 names_words a (suc n) h = (word_after_byte 66 (decimal a) (omega arith) (decimal_word a (omega arith)), names_words (a + 1) n (omega arith))
 
@@ -100,7 +100,7 @@ names_read : (a n : ℕ) → a + n ≤ 32 → map belt_in (map name_of (range_wi
 names_read a zero h = refl
 names_read a (suc n) h = ap₂ (λ x xs. x ∷ xs) (natural_read a (omega arith)) (names_read (a + 1) n (omega arith))
 
-row_words : (ws : List ℤ) → Small ws → All Word (map signed_decimal ws)
+row_words : (ws : List ℤ) → Small ws → AllByRecursion Word (map signed_decimal ws)
 row_words ws h = All-map Word signed_decimal ws (All-weaker _ (λ w. Word (signed_decimal w)) weight_word ws h)
 
 row_read : (ws : List ℤ) → Small ws → map whole_in (map signed_decimal ws) ≡ map Some ws
@@ -115,7 +115,7 @@ rows_closed : (rs : List (List ℤ)) → flat_map row_text rs ≡ flat_map (clos
 rows_closed [] = refl
 rows_closed (r ∷ rs) = ap₂ (λ x y. x ++ y) (line_closed (map signed_decimal r)) (rows_closed rs)
 
-rows_read : (rs : List (List ℤ)) → All Small rs → map (λ l. map whole_in (words_of l)) (map row_line rs) ≡ map (map Some) rs
+rows_read : (rs : List (List ℤ)) → AllByRecursion Small rs → map (λ l. map whole_in (words_of l)) (map row_line rs) ≡ map (map Some) rs
 rows_read [] h = refl
 rows_read (r ∷ rs) h = ap₂ (λ x xs. x ∷ xs) (ap (map whole_in) (words_bare (map signed_decimal r) (row_words r h.0)) ∙ row_read r h.0) (rows_read rs h.1)
 

@@ -1,6 +1,6 @@
 -- What it says of a list that it fits, and that a page has room for its text.
 use Rattle.std.proofs.Common.{◌≡◌, ℕ, zero, suc, ◌+◌, ◌*◌, ◌≤◌, false, ◌||◌, List, [], ◌∷◌, ◌++◌, map, length, take, drop, ℤ, pos, negsuc, sym, refl, ap, ◌∙◌, add_comm, mul-suc, arith, take-add}
-use Rattle.std.specs.List.{range_with_len, flat_map, AllByRecursion as All}
+use Rattle.std.specs.List.{range_with_len, flat_map, AllByRecursion}
 use Rattle.std.specs.Fmt.{signed_decimal}
 use Rattle.std.proofs.lemmas.Bool.{or_parts, ltb-false}
 use Rattle.std.proofs.lemmas.List.{length-append, length-map, length-take}
@@ -13,13 +13,13 @@ use Rattle.printing.proofs.Lines.{rest_of, line_rest}
 
 -- no weight is large
 abbrev pub Small : List ℤ → Type 0
-Small ws = All (λ w. is_large w ≡ false) ws
+Small ws = AllByRecursion (λ w. is_large w ≡ false) ws
 
 pub record Fits (belts balances : ℕ) (weights : List ℤ) : Type 0 where
   pub few : belts ≤ 32
   pub lines : balances ≤ 32
   pub full : belts * balances ≤ length weights
-  pub small : All Small (rows_of belts balances weights)
+  pub small : AllByRecursion Small (rows_of belts balances weights)
 
 none_of : (xs : List ℤ) → some is_large xs ≡ false → Small xs
 none_of [] e = tt
@@ -32,7 +32,7 @@ some_parts (x ∷ xs) ys e =
     let q = some_parts xs ys p.1 in
     (ap (λ b. b || some is_large xs) p.0 ∙ q.0, q.1)
 
-small_rows : (n k : ℕ) (ws : List ℤ) → some is_large (take (n * k) ws) ≡ false → All Small (rows_of n k ws)
+small_rows : (n k : ℕ) (ws : List ℤ) → some is_large (take (n * k) ws) ≡ false → AllByRecursion Small (rows_of n k ws)
 small_rows n zero ws e = tt
 small_rows n (suc k) ws e =
     let m = mul-suc n k ∙ add_comm (n * k) n in
@@ -54,16 +54,16 @@ gap_short : (i : ℕ) → length (gap i) ≤ 1
 gap_short zero = omega arith
 gap_short (suc i) = omega arith
 
-rest_short : (i : ℕ) (ws : List (List ℕ)) → All Short ws → length (rest_of i ws) ≤ 9 * length ws + 1
+rest_short : (i : ℕ) (ws : List (List ℕ)) → AllByRecursion Short ws → length (rest_of i ws) ≤ 9 * length ws + 1
 rest_short i [] h = omega arith
 rest_short i (w ∷ ws) h =
     omega (arith, h.0, gap_short i, rest_short (i + 1) ws h.1, length-append (gap i) (w ++ rest_of (i + 1) ws), length-append w (rest_of (i + 1) ws))
 
-line_short : (ws : List (List ℕ)) → All Short ws → length ws ≤ 32 → length (line_of ws) ≤ 288
+line_short : (ws : List (List ℕ)) → AllByRecursion Short ws → length ws ≤ 32 → length (line_of ws) ≤ 288
 line_short [] h l = omega arith
 line_short (w ∷ ws) h l = omega (arith, ap length (line_rest (w ∷ ws)), h.0, rest_short (0 + 1) ws h.1, length-append w (rest_of (0 + 1) ws))
 
-names_short : (a n : ℕ) → a + n ≤ 32 → All Short (map name_of (range_with_len a n))
+names_short : (a n : ℕ) → a + n ≤ 32 → AllByRecursion Short (map name_of (range_with_len a n))
 names_short a zero h = tt
 names_short a (suc n) h = (omega (arith, length-decimal-le 2 a (omega arith) (omega arith) (omega arith)), names_short (a + 1) n (omega arith))
 
@@ -80,7 +80,7 @@ row_short n ws l h =
     line_short (map signed_decimal (take n ws)) (All-map Short signed_decimal (take n ws) (All-weaker _ (λ w. Short (signed_decimal w)) weight_short (take n ws) h))
     (omega (arith, length-map (take n ws) signed_decimal, length-take n ws))
 
-rows_short : (n k : ℕ) (ws : List ℤ) → n ≤ 32 → All Small (rows_of n k ws) → length (flat_map row_text (rows_of n k ws)) ≤ 288 * k
+rows_short : (n k : ℕ) (ws : List ℤ) → n ≤ 32 → AllByRecursion Small (rows_of n k ws) → length (flat_map row_text (rows_of n k ws)) ≤ 288 * k
 rows_short n zero ws l h = omega arith
 rows_short n (suc k) ws l h =
     omega (arith, row_short n ws l h.0, rows_short n k (drop n ws) l h.1, length-append (row_text (take n ws)) (flat_map row_text (rows_of n k (drop n ws))))

@@ -1,5 +1,5 @@
 -- What a page stands for.
-use Rattle.printing.specs.Words.{ℕ, zero, suc, List, [], ◌∷◌, take}
+use Rattle.std.specs.Prelude.{ℕ, zero, suc, List, [], ◌∷◌, take}
 use Rattle.printing.specs.declared.page.Page.{Page}
 
 -- the text on a page

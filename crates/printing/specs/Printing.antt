@@ -1,5 +1,8 @@
 -- The printed list and the refusal line: what the printing calls answer and write.
-use Rattle.printing.specs.Words.{ℕ, zero, suc, ◌*◌, Bool, ◌||◌, ltb, List, [], ◌∷◌, ◌++◌, map, length, take, drop, joined, counting, codes, some, ℤ, nat_abs, decimal, signed, Result, Ok, Fault, UnfitList, ShortText, Outcome, number, and_then, refuse_if, written}
+use Rattle.std.specs.Prelude.{ℕ, zero, suc, ◌*◌, Bool, ◌||◌, ltb, List, [], ◌∷◌, ◌++◌, map, length, take, drop, codes, ℤ, nat_abs, Result, Ok}
+use Rattle.std.specs.List.{flat_map, range_with_len}
+use Rattle.std.specs.Fmt.{decimal, signed_decimal}
+use Rattle.printing.specs.Words.{some, Fault, UnfitList, ShortText, Outcome, number, and_then, refuse_if, written}
 
 -- one blank between neighbours, and a line feed at the end
 abbrev pub line_of : List (List ℕ) → List ℕ
@@ -18,11 +21,11 @@ name_of b = 66 ∷ decimal b
 
 -- the line of one balance
 abbrev pub row_text : List ℤ → List ℕ
-row_text ws = line_of (map signed ws)
+row_text ws = line_of (map signed_decimal ws)
 
 -- the line of the belts' names; then a line of weights for each balance
 abbrev pub list_text : ℕ → ℕ → List ℤ → List ℕ
-list_text belts balances weights = line_of (map name_of (counting 0 belts)) ++ joined row_text (rows_of belts balances weights)
+list_text belts balances weights = line_of (map name_of (range_with_len 0 belts)) ++ flat_map row_text (rows_of belts balances weights)
 
 -- the line of a refusal's number and place
 abbrev pub refusal_line : ℕ → ℕ → List ℕ

@@ -1,5 +1,7 @@
 -- How a printed list is read back: lines and words as in a sheet, names and numbers by their bytes alone.
-use Rattle.printing.specs.Words.{ℕ, cond, eqb, List, [], ◌∷◌, map, counting, ℤ, pos, neg_ℤ, Option, Some, None, mapped}
+use Rattle.std.specs.Prelude.{ℕ, cond, eqb, List, [], ◌∷◌, map, ℤ, pos, neg_ℤ, Option, Some, None}
+use Rattle.std.specs.List.{range_with_len}
+use Rattle.std.specs.Option.{option_map}
 use Rattle.printing.specs.Printing.{rows_of}
 use Rattle.sheet.specs.Text.{lines_of, fields_of, digits}
 
@@ -16,7 +18,7 @@ natural_in (b ∷ bs) = digits 0 (b ∷ bs)
 -- the same with a dash before it, if it is below zero
 abbrev pub whole_in : List ℕ → Option ℤ
 whole_in [] = None
-whole_in (b ∷ bs) = cond (eqb b 45) (mapped (λ n. neg_ℤ (pos n)) (natural_in bs)) (mapped pos (natural_in (b ∷ bs)))
+whole_in (b ∷ bs) = cond (eqb b 45) (option_map (λ n. neg_ℤ (pos n)) (natural_in bs)) (option_map pos (natural_in (b ∷ bs)))
 
 -- the number of the belt that a name tells
 abbrev pub belt_in : List ℕ → Option ℕ
@@ -38,4 +40,4 @@ reading text = of_lines (lines_of text)
 
 -- what the text of a list tells: each belt in order, and the weights of each balance
 abbrev pub listed : ℕ → ℕ → List ℤ → Reading
-listed belts balances weights = record { names = map Some (counting 0 belts); rows = map (map Some) (rows_of belts balances weights) }
+listed belts balances weights = record { names = map Some (range_with_len 0 belts); rows = map (map Some) (rows_of belts balances weights) }

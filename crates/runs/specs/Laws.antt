@@ -1,6 +1,6 @@
 -- What holds of a line after any list of calls. Assumes nothing.
 use Rattle.std.specs.Prelude.{◌≡◌, ℕ, ◌+◌, ◌<◌, List, length, ℤ, pos, Some, Ok}
-use Rattle.std.specs.List.{AllByRecursion as All}
+use Rattle.std.specs.List.{AllByRecursion}
 use Rattle.banks.specs.Banks.{numbered}
 use Rattle.kinds.specs.Kinds.{Kind, wholes, parities}
 use Rattle.flows.specs.Derivation.{derived}
@@ -27,7 +27,7 @@ CountsTell s told = (b : ℕ) → b < belt_count s.sheet → CountTells s told b
 abbrev pub BalancesHold : Kind → (ℤ → Type 0) → State → Type 0
 BalancesHold K Z s =
     (balances : List (List ℤ)) → derived K s.sheet ≡ Ok balances
-    → All (λ u. Z (comes_to (belt_count s.sheet) (weighting u) (λ b. pos (held s b)))) balances
+    → AllByRecursion (λ u. Z (comes_to (belt_count s.sheet) (weighting u) (λ b. pos (held s b)))) balances
 
 -- the law over runs, of a line and the log of the calls that were made on it
 pub record Kept (s : State) (log : List Report) : Type 0 where

@@ -1,6 +1,6 @@
 -- One line of a sheet, as it is read and as it is written.
 use Rattle.std.proofs.Common.{◌≡◌, ℕ, zero, suc, ◌+◌, ◌-◌, ◌*◌, ◌^◌, ◌<◌, ◌≤◌, Bool, true, false, cond, ◌&&◌, eqb, ltb, leb, List, [], ◌∷◌, ◌++◌, get_or, Some, None, decimal, Option, sym, refl, ap, ◌∙◌, subst, arith, rules}
-use Rattle.std.specs.List.{flat_map, AllByRecursion as All}
+use Rattle.std.specs.List.{flat_map, AllByRecursion}
 use Rattle.std.proofs.lemmas.Bool.{cond-true, cond-false, cond_both, and_parts, and_from, ltb-true, lt-ltb, le-leb, leb-true, eq-eqb, ne_eqb, eqb-true, eqb-false}
 use Rattle.std.proofs.lemmas.List.{append-nil, append_assoc, append_cancel_right}
 use Rattle.std.proofs.lemmas.Str.Parse.{IsNumeralModel, numerals_by_fold}
@@ -35,7 +35,7 @@ module _ (s : ℕ) where
       cond-false _ _ _ n ∙ ended_piece (p ++ b ∷ []) x rest q.1 ∙ ap (λ y. y ∷ ended s [] rest) (append_assoc p (b ∷ []) x)
 
   -- pieces that are closed are taken apart again
-  pub ended_joined : (ls : List (List ℕ)) → All (λ l. past s l ≡ true) ls → ended s [] (flat_map closed ls) ≡ ls
+  pub ended_joined : (ls : List (List ℕ)) → AllByRecursion (λ l. past s l ≡ true) ls → ended s [] (flat_map closed ls) ≡ ls
   ended_joined [] h = refl
   ended_joined (l ∷ ls) h =
       ap (ended s []) (append_assoc l (s ∷ []) (flat_map closed ls)) ∙ ended_piece [] l (flat_map closed ls) h.0

@@ -1,11 +1,11 @@
--- The reading of a value line: answers by `okOr`, and lists of other lengths than one and three.
+-- The reading of a value line: answers by `ok_or`, and lists of other lengths than one and three.
 use Rattle.std.proofs.Common.{◌≡◌, ℕ, ◌<◌, eqb, List, [], ◌∷◌, ◌++◌, length, get_or, Some, None, Ok, Err, Option, Result, refl, arith}
 use Rattle.std.specs.Option.{ok_or}
 use Rattle.std.proofs.lemmas.Bool.{cond_both}
 use Rattle.sheet.specs.declared.text.Order.{Order}
 use Rattle.sheet.specs.Text.{node_from, of_three, parted}
 
--- what an answer in the form of `okOr` says of the option behind it
+-- what an answer in the form of `ok_or` says of the option behind it
 pub was_some : {T E : Type 0} (o : Option T) (e : E) (x : T) → ◌≡◌ {A = Result T E} (Ok x) (ok_or o e) → o ≡ Some x
 was_some None e x p = let z : ◌≡◌ {A = ℕ} 0 1 = cc in absurd (omega arith)
 was_some (Some y) e x p = cc

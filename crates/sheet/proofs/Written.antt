@@ -1,6 +1,6 @@
 -- A text is accepted exactly when it is a sheet of some nodes.
 use Rattle.std.proofs.Common.{◌≡◌, ℕ, ◌+◌, ◌-◌, ◌<◌, ◌≤◌, Bool, true, false, cond, not, ◌&&◌, eqb, List, [], ◌∷◌, ◌++◌, map, length, get_or, take, Some, None, Ok, Err, count_by, Option, Result, sym, refl, ap, ◌∙◌, subst, zero-add, arith}
-use Rattle.std.specs.List.{flat_map, AllByRecursion as All}
+use Rattle.std.specs.List.{flat_map, AllByRecursion}
 use Rattle.std.specs.Str.{bytes_eq}
 use Rattle.std.specs.Option.{ok_or}
 use Rattle.std.proofs.lemmas.Bool.{and_parts, and_from, ltb-true, leb-true, le-leb, eqb-true, eq-eqb}
@@ -173,7 +173,7 @@ module _ (o : Order) (ns : List Node) (law : Lawful ns) where
       ∙ ap (λ b. next (refuse_if (not b) GateOutOfOrder i (Ok more))) order
       ∙ lines_read more rest on
 
-  lines_unbroken : All (λ l. past 10 l ≡ true) (map (node_line o) ns)
+  lines_unbroken : AllByRecursion (λ l. past 10 l ≡ true) (map (node_line o) ns)
   lines_unbroken =
       All-map (λ l. past 10 l ≡ true) (node_line o) ns
       (All-from_get_or (λ n. past 10 (node_line o n) ≡ true) ns (Free Sensor) (λ i h. (line_read o (get_or ns i (Free Sensor)) (modest_at i h)).unbroken))

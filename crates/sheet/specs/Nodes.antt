@@ -1,5 +1,6 @@
 -- What a node is: a free wire, a belt or a gate, and which belt it speaks of.
-use Rattle.sheet.specs.Words.{ℕ, Bool, true, false, eqb, ltb, not, ◌&&◌, List, [], ◌∷◌, length, get_or, countBy, Option, Some, None, Node, Free, Belt, Gate, Source, Sensor, Flop, Room, Item, Bit, Logic, Constant, Not, And, Or, Xor}
+use Rattle.std.specs.Prelude.{ℕ, Bool, true, false, eqb, ltb, not, ◌&&◌, List, [], ◌∷◌, length, get_or, count_by, Option, Some, None}
+use Rattle.sheet.specs.Words.{Node, Free, Belt, Gate, Source, Sensor, Flop, Room, Item, Bit, Logic, Constant, Not, And, Or, Xor}
 use Rattle.sheet.specs.declared.class.Class.{Class}
 use Rattle.sheet.specs.declared.class.Class.TheVariants as Of
 
@@ -46,7 +47,7 @@ is_of Of.Xor n = on_gate (λ g. elim g [ Constant v ↦ false | Not w ↦ false 
 
 -- how many of some nodes are of a class
 abbrev pub count_of : Class → List Node → ℕ
-count_of c ns = countBy (is_of c) ns
+count_of c ns = count_by (is_of c) ns
 
 -- the belt whose room line, item line or bit line a node is
 abbrev pub room_of : Node → Option ℕ
@@ -85,4 +86,4 @@ belts_of (Belt o t ∷ ns) = (o, t) ∷ belts_of ns
 belts_of (Gate g ∷ ns) = belts_of ns
 
 abbrev pub belt_at : List Node → ℕ → Bool
-belt_at ns b = ltb b (countBy is_belt ns)
+belt_at ns b = ltb b (count_by is_belt ns)

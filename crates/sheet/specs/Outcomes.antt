@@ -1,5 +1,6 @@
 -- What a call answers, and what it leaves in the memory that was handed to it.
-use Rattle.sheet.specs.Words.{List, ◌++◌, length, Result, Ok, Err, Fault}
+use Rattle.std.specs.Prelude.{List, ◌++◌, length, Result, Ok, Err}
+use Rattle.sheet.specs.Words.{Fault}
 use Rattle.std.specs.Prelude.{drop}
 
 -- a call's answer, and what the memory handed to it holds afterwards

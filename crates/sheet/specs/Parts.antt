@@ -1,5 +1,6 @@
 -- Which line is a part of which belt.
-use Rattle.sheet.specs.Words.{ℕ, Bool, Node}
+use Rattle.std.specs.Prelude.{ℕ, Bool}
+use Rattle.sheet.specs.Words.{Node}
 use Rattle.sheet.specs.Nodes.{is_room_of, is_item_of, is_bit_of}
 use Rattle.sheet.specs.declared.parts.Part.{Part}
 use Rattle.sheet.specs.declared.parts.Part.TheVariants as Of

@@ -1,5 +1,6 @@
 -- The rules that a sheet keeps.
-use Rattle.sheet.specs.Words.{◌≡◌, ℕ, suc, Bool, true, cond, not, ◌&&◌, ◌||◌, eqb, leb, ◌≤◌, ◌<◌, List, [], ◌∷◌, length, get_or, take, countBy, Option, Some, None, Node, Free, Belt, Gate, Source, Sensor, Flop, Room, Item, Bit, Logic, Constant, Not, And, Or, Xor}
+use Rattle.std.specs.Prelude.{◌≡◌, ℕ, suc, Bool, true, cond, not, ◌&&◌, ◌||◌, eqb, leb, ◌≤◌, ◌<◌, List, [], ◌∷◌, length, get_or, take, count_by, Option, Some, None}
+use Rattle.sheet.specs.Words.{Node, Free, Belt, Gate, Source, Sensor, Flop, Room, Item, Bit, Logic, Constant, Not, And, Or, Xor}
 use Rattle.sheet.specs.Nodes.{is_belt, is_free, is_room_of, is_item_of, is_bit_of, wire_at, belt_at}
 
 -- at most 640 lines, 32 belts and 128 free wires
@@ -37,11 +38,11 @@ abbrev pub parts_fit : ℕ → ℕ → ℕ → Bool
 parts_fit rooms items bits = eqb rooms 1 && (eqb items 1 && leb bits 4)
 
 abbrev pub belt_fits : List Node → ℕ → Bool
-belt_fits ns b = parts_fit (countBy (is_room_of b) ns) (countBy (is_item_of b) ns) (countBy (is_bit_of b) ns)
+belt_fits ns b = parts_fit (count_by (is_room_of b) ns) (count_by (is_item_of b) ns) (count_by (is_bit_of b) ns)
 
 -- the same at line i: the belt of a b line there is numbered by the belts before it
 abbrev pub line_fits : List Node → ℕ → Node → Bool
-line_fits ns i n = not (is_belt n) || belt_fits ns (countBy is_belt (take i ns))
+line_fits ns i n = not (is_belt n) || belt_fits ns (count_by is_belt (take i ns))
 
 -- each rule, at every line of a sheet
 abbrev pub Ordered : List Node → Type 0
@@ -56,8 +57,8 @@ Complete ns = (i : ℕ) → i < length ns → line_fits ns i (get_or ns i (Free 
 -- the rules of a sheet
 pub record Lawful (ns : List Node) : Type 0 where
   pub lines : length ns ≤ 640
-  pub belts : countBy is_belt ns ≤ 32
-  pub free : countBy is_free ns ≤ 128
+  pub belts : count_by is_belt ns ≤ 32
+  pub free : count_by is_free ns ≤ 128
   pub ordered : Ordered ns
   pub named : Named ns
   pub complete : Complete ns

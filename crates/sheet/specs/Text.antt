@@ -1,5 +1,7 @@
 -- How one line of a sheet's text is read.
-use Rattle.sheet.specs.Words.{ℕ, ◌+◌, ◌-◌, ◌*◌, Bool, true, false, cond, ◌&&◌, eqb, leb, List, [], ◌∷◌, ◌++◌, codes, sameBytes, Option, Some, None, Node, Free, Belt, Gate, Sensor, Flop, Room, Item, Bit, Constant, Not, And, Or, Xor}
+use Rattle.std.specs.Prelude.{ℕ, ◌+◌, ◌-◌, ◌*◌, Bool, true, false, cond, ◌&&◌, eqb, leb, List, [], ◌∷◌, ◌++◌, codes, Option, Some, None}
+use Rattle.std.specs.Str.{bytes_eq}
+use Rattle.sheet.specs.Words.{Node, Free, Belt, Gate, Sensor, Flop, Room, Item, Bit, Constant, Not, And, Or, Xor}
 use Rattle.sheet.specs.declared.text.Value.{Value}
 use Rattle.sheet.specs.declared.text.Value.TheVariants.{Dash, Number}
 use Rattle.sheet.specs.declared.text.Order.{Order}
@@ -117,9 +119,9 @@ names_line RightLeftKind = codes "right left kind"
 
 abbrev pub order_of : List ℕ → Option Order
 order_of line =
-    cond (sameBytes line (names_line KindLeftRight)) (Some KindLeftRight)
-    (cond (sameBytes line (names_line KindRightLeft)) (Some KindRightLeft)
-    (cond (sameBytes line (names_line LeftKindRight)) (Some LeftKindRight)
-    (cond (sameBytes line (names_line LeftRightKind)) (Some LeftRightKind)
-    (cond (sameBytes line (names_line RightKindLeft)) (Some RightKindLeft)
-    (cond (sameBytes line (names_line RightLeftKind)) (Some RightLeftKind) None)))))
+    cond (bytes_eq line (names_line KindLeftRight)) (Some KindLeftRight)
+    (cond (bytes_eq line (names_line KindRightLeft)) (Some KindRightLeft)
+    (cond (bytes_eq line (names_line LeftKindRight)) (Some LeftKindRight)
+    (cond (bytes_eq line (names_line LeftRightKind)) (Some LeftRightKind)
+    (cond (bytes_eq line (names_line RightKindLeft)) (Some RightKindLeft)
+    (cond (bytes_eq line (names_line RightLeftKind)) (Some RightLeftKind) None)))))

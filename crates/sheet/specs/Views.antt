@@ -1,5 +1,6 @@
 -- What the structures stand for.
-use Rattle.sheet.specs.Words.{List, take, Node}
+use Rattle.std.specs.Prelude.{List, take}
+use Rattle.sheet.specs.Words.{Node}
 use Rattle.sheet.specs.declared.sheet.Sheet.{Sheet}
 use Rattle.sheet.specs.declared.sheet.draft.Draft.{Draft}
 
