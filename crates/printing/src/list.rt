@@ -4,7 +4,7 @@ ghost use Rattle.std.specs.List.{range_with_len, flat_map};
 ghost use Rattle.printing.specs.Pages.{text_on, gap};
 ghost use Rattle.printing.specs.Printing.{line_of, name_of, row_text, rows_of, list_text, is_large, list_unfit, print_list};
 ghost use Rattle.printing.specs.Reading.{reading, listed};
-use Rattle.printing.specs.Words.{some}
+ghost use Rattle.printing.specs.Words.{some};
 
 use crate::page::Page;
 use sheet::fault::{Fault, Refusal};
