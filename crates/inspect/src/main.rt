@@ -4,27 +4,30 @@ mod explain;
 mod parts;
 mod report;
 
-use anyhow::anyhow;
 use report::{print_refusal, print_sheet};
 use sheet::sheet::Sheet;
 use std::io::Read;
+use std::process::ExitCode;
 
 // One byte more than the longest sheet, so that a longer text is seen to be too long.
 const MOST_READ: u64 = 8193;
 
-fn run(rt: &HostRuntime) -> anyhow::Result<()> {
+fn run(rt: &HostRuntime) -> anyhow::Result<ExitCode> {
     let mut text = Vec::new(rt.alloc());
     rt.stdin().take(MOST_READ).read_to_end(&mut text)?;
     match Sheet::load(text.as_slice()) {
-        Ok(sheet) => print_sheet(rt, &sheet),
+        Ok(sheet) => {
+            print_sheet(rt, &sheet)?;
+            Ok(ExitCode::SUCCESS)
+        }
         Err(fault) => {
             print_refusal(rt, fault)?;
-            Err(anyhow!("the sheet was refused"))
+            Ok(ExitCode::FAILURE)
         }
     }
 }
 
 // Reads a sheet from standard input and prints what it holds, or why it is refused (status 1).
-fn main(rt: HostRuntime) -> anyhow::Result<()> {
+fn main(rt: HostRuntime) -> anyhow::Result<ExitCode> {
     run(&rt)
 }
