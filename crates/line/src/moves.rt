@@ -3,7 +3,7 @@ ghost use Rattle.belts.specs.Belts.{clearing};
 ghost use Rattle.sheet.specs.Nodes.{count_of};
 ghost use Rattle.sheet.specs.Rules.{Lawful};
 ghost use Rattle.sheet.specs.declared.class.Class.TheVariants as Of;
-ghost use Rattle.line.specs.Lines.{low, word_of, moved, each as eachBelt};
+ghost use Rattle.line.specs.Lines.{low, word_of, moved, each as each_belt};
 ghost use Rattle.line.specs.Moving.{next_of, with_bit, given_up, taken_in};
 ghost use Rattle.line.specs.Parts.{drivers_of, bits_of, entering_of};
 
@@ -65,7 +65,7 @@ fn move_belt<B: Bank>(bank: &mut B, b: usize, enter: bool, leave: bool, word: u8
 // Moves the first `n` belts, in number order, by the event bytes and the words.
 pub(crate) fn advance<B: Bank>(bank: &mut B, n: usize, words: &[u8], events: &[u8])
     requires { (n ≤ length words.now) × (2 * n ≤ length events.now) }
-    ensures { B.belts bank.new ≡ eachBelt (λ b. moved (slice_index events.now (2 * b) == 1) (slice_index events.now (2 * b + 1) == 1) (slice_index words.now b)) n (B.belts bank.old) }
+    ensures { B.belts bank.new ≡ each_belt (λ b. moved (slice_index events.now (2 * b) == 1) (slice_index events.now (2 * b + 1) == 1) (slice_index words.now b)) n (B.belts bank.old) }
 {
     for b in 0..n {
         move_belt(
