@@ -31,7 +31,7 @@ impl<X: Bank, Y: Bank> Beside<X, Y> {
 
     // Where the belt of a number stands.
     fn side(&self, i: usize) -> Side
-        ensures { StandsAt (X.Bank.belts self.now.first) (Y.Bank.belts self.now.second) i result }
+        ensures { StandsAt (X.belts self.now.first) (Y.belts self.now.second) i result }
     {
         let n = self.first.size();
         if i < n {
@@ -45,13 +45,13 @@ impl<X: Bank, Y: Bank> Beside<X, Y> {
 }
 
 impl<X: Bank, Y: Bank> Bank for Beside<X, Y> {
-    ghost belts = { λ s. beside (X.Bank.belts s.first) (Y.Bank.belts s.second) };
+    ghost belts = { λ s. beside (X.belts s.first) (Y.belts s.second) };
 
     ghost sized = { λ b.
-        let p = X.Bank.sized b.first in
+        let p = X.sized b.first in
         (simp (length-take, length-append) (omega arith), simp (length-take, length-append) (omega arith)) };
 
-    ghost small = { λ b i. beside_each (λ m. (m.places ≤ 65535) × (m.width ≤ 4)) _ _ (X.Bank.sized b.first).1 (omega arith, omega arith) (X.Bank.small b.first) (Y.Bank.small b.second) i };
+    ghost small = { λ b i. beside_each (λ m. (m.places ≤ 65535) × (m.width ≤ 4)) _ _ (X.sized b.first).1 (omega arith, omega arith) (X.small b.first) (Y.small b.second) i };
 
     fn size(&self) -> usize {
         (self.first.size() + self.second.size()).min(MOST)

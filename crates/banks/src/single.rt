@@ -20,7 +20,7 @@ impl<B: Belt> Single<B> {
 }
 
 impl<B: Belt> Bank for Single<B> {
-    ghost belts = { λ s. B.Belt.model s.belt ∷ [] };
+    ghost belts = { λ s. B.model s.belt ∷ [] };
 
     ghost sized = { Prim.search rules };
 

@@ -21,7 +21,7 @@ impl<F: Belt, R: Belt> Series<F, R> {
 
     // How many words both hold, or 65,535 where they are more.
     fn held(&self) -> u16
-        ensures { result ≡ counted (in_series (F.Belt.model self.now.front) (R.Belt.model self.now.rear)) }
+        ensures { result ≡ counted (in_series (F.model self.now.front) (R.model self.now.rear)) }
     {
         self.front.count().saturating_add(self.rear.count())
     }
@@ -29,8 +29,8 @@ impl<F: Belt, R: Belt> Series<F, R> {
 
 // Moves words up from the rear while the front has room.
 fn move_up<F: Belt, R: Belt>(front: &mut F, rear: &mut R)
-    ensures same { in_series (F.Belt.model front.new) (R.Belt.model rear.new) ≡ in_series (F.Belt.model front.old) (R.Belt.model rear.old) }
-    ensures settled { roomy (F.Belt.model front.new) ≡ true → (R.Belt.model rear.new).words ≡ [] }
+    ensures same { in_series (F.model front.new) (R.model rear.new) ≡ in_series (F.model front.old) (R.model rear.old) }
+    ensures settled { roomy (F.model front.new) ≡ true → (R.model rear.new).words ≡ [] }
 {
     while front.room() {
         match rear.take() {
@@ -44,9 +44,9 @@ fn move_up<F: Belt, R: Belt>(front: &mut F, rear: &mut R)
 
 // Puts a word behind all others: into the front where nothing stands in the rear, else into the rear.
 fn append<F: Belt, R: Belt>(front: &mut F, rear: &mut R, word: u8) -> bool
-    requires { roomy (in_series (F.Belt.model front.old) (R.Belt.model rear.old)) ≡ true }
+    requires { roomy (in_series (F.model front.old) (R.model rear.old)) ≡ true }
     ensures said { result ≡ true }
-    ensures joined { in_series (F.Belt.model front.new) (R.Belt.model rear.new) ≡ joining word (in_series (F.Belt.model front.old) (R.Belt.model rear.old)) }
+    ensures joined { in_series (F.model front.new) (R.model rear.new) ≡ joining word (in_series (F.model front.old) (R.model rear.old)) }
 {
     move_up(front, rear);
     if front.room() {
@@ -57,7 +57,7 @@ fn append<F: Belt, R: Belt>(front: &mut F, rear: &mut R, word: u8) -> bool
 }
 
 impl<F: Belt, R: Belt> Belt for Series<F, R> {
-    ghost model = { λ s. in_series (F.Belt.model s.front) (R.Belt.model s.rear) };
+    ghost model = { λ s. in_series (F.model s.front) (R.model s.rear) };
 
     ghost small = { Prim.search rules };
 

@@ -1,5 +1,5 @@
 // A belt's flow, worked out in lent records.
-ghost use Rattle.std.specs.Prelude.{◌≡◌, ◌+◌, ◌^◌, ◌<◌, ◌≤◌, [], length, take, slice_index_or};
+ghost use Rattle.std.specs.Prelude.{◌≡◌, ◌^◌, ◌<◌, ◌≤◌, [], length, take, slice_index_or};
 ghost use Rattle.terms.specs.Forms.{and_form, norm};
 ghost use Rattle.terms.specs.Records.{form_in, Held};
 ghost use Rattle.forms.specs.Slots.{forms_in};

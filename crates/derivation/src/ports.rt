@@ -1,5 +1,5 @@
 // The wires that a belt's events look at.
-ghost use Rattle.std.specs.Prelude.{◌≡◌, ◌<◌, ◌≤◌, length, slice_index_or};
+ghost use Rattle.std.specs.Prelude.{◌≡◌, ◌≤◌, length, slice_index_or};
 ghost use Rattle.sheet.specs.Nodes.{belts_of};
 ghost use Rattle.sheet.specs.Parts.{is_part};
 ghost use Rattle.flows.specs.Flows.{line_where, ports_of};

@@ -1,5 +1,5 @@
 // Single rows: starting, combining, dividing, storing, negating.
-ghost use Rattle.std.specs.Prelude.{◌≡◌, ℕ, ◌+◌, ◌*◌, ◌<◌, ◌≤◌, true, false, cond, not, ◌++◌, map, length, take, drop};
+ghost use Rattle.std.specs.Prelude.{◌≡◌, ◌+◌, ◌*◌, ◌<◌, ◌≤◌, true, false, not, ◌++◌, map, length, take, drop};
 ghost use Rattle.kinds.specs.Elimination.{less, divisor_from, over, any_past, leads_below, negated_if, unit};
 
 use kinds::Number;

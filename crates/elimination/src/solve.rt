@@ -1,13 +1,13 @@
 // All rows in order, and the balances' weights.
-ghost use Rattle.std.specs.Prelude.{◌≡◌, ℕ, ◌+◌, ◌-◌, ◌*◌, ◌<◌, ◌≤◌, ◌++◌, map, length, take, drop, IfOk, Some, None, Ok, Err, MatchOption, MatchResult};
+ghost use Rattle.std.specs.Prelude.{◌≡◌, ◌+◌, ◌-◌, ◌*◌, ◌<◌, ◌≤◌, ◌++◌, map, length, take, drop, IfOk, Some, None, Ok, Err, MatchOption, MatchResult};
 ghost use Rattle.kinds.specs.Kinds.{wholes, parities};
 ghost use Rattle.kinds.specs.Elimination.{added};
 ghost use Rattle.elimination.specs.Memory.{rows_of, state_of, told};
-ghost use Rattle.elimination.specs.Answers.{sizes_fit, balances_of, answered, solved, Exact};
+ghost use Rattle.elimination.specs.Answers.{sizes_fit, balances_of, solved, Exact};
 
 use crate::reduce::{End, handle};
 use crate::rows::{keep_row, row_at, start_row};
-use kinds::{Combination, Number, Parity, Whole};
+use kinds::{Number, Parity, Whole};
 
 // Why an elimination is refused.
 #[derive(Clone, Copy, PartialEq, Eq, Debug)]

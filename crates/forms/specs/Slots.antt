@@ -28,8 +28,8 @@ forms_in f = slot_forms (take f.len f.slots)
 -- the gates' forms are within the limits, and these are the forms of all lines
 pub record Allowed (ns : List Node) (fs : List Form) : Type 0 where
   pub forms : fs ≡ forms_of ns
-  pub together : ℕ
-  pub within : limits ns ≡ Ok together
+  pub count : ℕ
+  pub within : limits ns ≡ Ok count
 
 -- the first limit that a gate's form passes
 abbrev pub Refused : List Node → Fault → Type 0

@@ -1,7 +1,7 @@
 ghost use Rattle.std.specs.Prelude.{◌≡◌, ◌≤◌, ◌-ℤ◌, ◌*ℤ◌, unsigned_abs};
 ghost use Rattle.kinds.specs.Kinds.{wholes};
 ghost use Rattle.kinds.specs.Wholes.{wholes_lawful};
-ghost use Rattle.std.proofs.Common.{rules, arith};
+ghost use Rattle.std.proofs.Common.{rules};
 
 use crate::Number;
 use crate::divisor::gcd;
@@ -44,7 +44,7 @@ impl Number for Whole {
 
     ghost lawful = { wholes_lawful };
 
-    ghost within = { first_of (Prim.search rules, Prim.grind (arith, Self.row.coded.inj)) };
+    ghost within = { Prim.search rules };
 
     fn zero() -> Whole {
         Whole { n: 0 }

@@ -1,12 +1,11 @@
 -- The words of the entering bits.
-use Rattle.std.proofs.Common.{◌≡◌, ℕ, suc, ◌+◌, ◌-◌, ◌*◌, ◌^◌, ◌<◌, ◌≤◌, Bool, true, false, cond, eqb, List, [], ◌∷◌, ◌++◌, length, get_or, drop, count_by, sym, refl, ap, ◌∙◌, ⊎_elim, arith, pow_mono}
+use Rattle.std.proofs.Common.{◌≡◌, ℕ, suc, ◌+◌, ◌-◌, ◌*◌, ◌^◌, ◌<◌, ◌≤◌, Bool, true, false, cond, eqb, List, [], ◌∷◌, ◌++◌, length, get_or, drop, count_by, sym, refl, ap, ◌∙◌, ⊎_elim, arith, pow_mono, Option, Some, None}
 use native.Mathlib.Nat.{pow-succ'}
 use Rattle.std.proofs.lemmas.Bool.{cases_lt}
 use Rattle.std.proofs.lemmas.List.{at_drop_more, length-append, get_or_past}
 use Rattle.std.proofs.lemmas.List.Sums.{sum_by-cons, sum_by-take-drop}
 use Rattle.sheet.specs.Nodes.{is_bit_of}
 use Rattle.sheet.proofs.Counting.{byte_le}
-use Rattle.std.specs.Prelude.{Option, Some, None}
 use Rattle.line.specs.Words.{Node, Free, Belt, Gate, Sensor, Flop, Room, Item, Bit}
 use Rattle.line.specs.Lines.{word_of}
 use Rattle.line.specs.Moving.{with_bit}

@@ -1,10 +1,9 @@
 -- The steps of a search for the lowest belt that a test finds, and for a byte.
-use Rattle.std.proofs.Common.{◌≡◌, ℕ, ◌+◌, ◌<◌, ◌≤◌, Bool, true, false, List, length, drop, sym, ap, ◌∙◌, add-one}
+use Rattle.std.proofs.Common.{◌≡◌, ℕ, ◌+◌, ◌<◌, ◌≤◌, Bool, true, false, List, length, drop, sym, ap, ◌∙◌, add-one, Some, None}
 use Rattle.std.proofs.lemmas.Bool.{cond-true, cond-false}
 use Rattle.std.proofs.lemmas.List.{at_drop_more, at_drop_all}
 use Rattle.belts.specs.Belts.{Model}
 use Rattle.banks.specs.Banks.{absent, numbered}
-use Rattle.std.specs.Prelude.{Some, None}
 use Rattle.line.specs.Lines.{lowest_belt}
 
 module _ (p : ℕ → Model → Bool) (ms : List Model) (b : ℕ) where

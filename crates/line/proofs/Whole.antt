@@ -1,10 +1,9 @@
 -- A tick's result, from what its halves give.
-use Rattle.std.proofs.Common.{◌≡◌, ℕ, ◌+◌, ◌*◌, ◌<◌, ◌≤◌, Bool, eqb, List, [], ◌++◌, get_or, drop, ap, ◌∙◌, arith}
+use Rattle.std.proofs.Common.{◌≡◌, ℕ, ◌+◌, ◌*◌, ◌<◌, ◌≤◌, Bool, eqb, List, [], ◌++◌, get_or, drop, ap, ◌∙◌, arith, Ok}
 use Rattle.std.proofs.lemmas.List.{get_or_append_left}
 use Rattle.belts.specs.Belts.{Model, roomy, head_of}
 use Rattle.banks.specs.Banks.{numbered}
 use Rattle.sheet.specs.Wires.{settled, enters, leaves}
-use Rattle.std.specs.Prelude.{Ok}
 use Rattle.std.specs.Option.{is_some}
 use Rattle.line.specs.Words.{Node}
 use Rattle.line.specs.Parts.{belt_count, bits_of}

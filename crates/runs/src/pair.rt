@@ -17,9 +17,9 @@ fn obey<A: Bank, C: Bank>(
     sheets: &[Sheet],
     order: Order,
 ) -> Report
-    ensures report { result ≡ report_of sheets.now (view A.Bank.belts one.old) (view C.Bank.belts two.old) order.entry }
-    ensures first { view A.Bank.belts one.new ≡ obeyed false sheets.now (view A.Bank.belts one.old) order.entry }
-    ensures second { view C.Bank.belts two.new ≡ obeyed true sheets.now (view C.Bank.belts two.old) order.entry }
+    ensures report { result ≡ report_of sheets.now (view A.belts one.old) (view C.belts two.old) order.entry }
+    ensures first { view A.belts one.new ≡ obeyed false sheets.now (view A.belts one.old) order.entry }
+    ensures second { view C.belts two.new ≡ obeyed true sheets.now (view C.belts two.old) order.entry }
 {
     if order.second {
         perform(two, sheets, order.call)
@@ -38,9 +38,9 @@ fn log_orders<A: Bank, C: Bank>(
     done: usize,
 )
     requires { (done ≤ length orders.now) × (done ≤ length log.old) }
-    ensures log { log.new ≡ woven sheets.now (view A.Bank.belts one.old) (view C.Bank.belts two.old) (take done orders.now) ++ drop done log.old }
-    ensures first { view A.Bank.belts one.new ≡ afterwards sheets.now (view A.Bank.belts one.old) (calls_for false (take done orders.now)) }
-    ensures second { view C.Bank.belts two.new ≡ afterwards sheets.now (view C.Bank.belts two.old) (calls_for true (take done orders.now)) }
+    ensures log { log.new ≡ woven sheets.now (view A.belts one.old) (view C.belts two.old) (take done orders.now) ++ drop done log.old }
+    ensures first { view A.belts one.new ≡ afterwards sheets.now (view A.belts one.old) (calls_for false (take done orders.now)) }
+    ensures second { view C.belts two.new ≡ afterwards sheets.now (view C.belts two.old) (calls_for true (take done orders.now)) }
 {
     for i in 0..done {
         log[i] = obey(one, two, sheets, orders[i]);
@@ -58,9 +58,9 @@ pub fn run_two<A: Bank, C: Bank>(
     log: &mut [Report],
 ) -> ((Line<A>, Line<C>), usize)
     ensures many { result.1 ≡ min (length orders.now) (length log.old) }
-    ensures log { log.new ≡ woven sheets.now (new_line (A.Bank.belts one)) (new_line (C.Bank.belts two)) (take result.1 orders.now) ++ drop result.1 log.old }
-    ensures first { Alone sheets.now (new_line (A.Bank.belts one)) false (take result.1 orders.now) (take result.1 log.new) (view A.Bank.belts result.0.0) }
-    ensures second { Alone sheets.now (new_line (C.Bank.belts two)) true (take result.1 orders.now) (take result.1 log.new) (view C.Bank.belts result.0.1) }
+    ensures log { log.new ≡ woven sheets.now (new_line (A.belts one)) (new_line (C.belts two)) (take result.1 orders.now) ++ drop result.1 log.old }
+    ensures first { Alone sheets.now (new_line (A.belts one)) false (take result.1 orders.now) (take result.1 log.new) (view A.belts result.0.0) }
+    ensures second { Alone sheets.now (new_line (C.belts two)) true (take result.1 orders.now) (take result.1 log.new) (view C.belts result.0.1) }
 {
     let mut first = Line::new(one);
     let mut second = Line::new(two);

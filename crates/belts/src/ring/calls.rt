@@ -1,7 +1,7 @@
 ghost use Rattle.std.specs.Prelude.{◌≡◌, ◌≤◌};
 ghost use Rattle.belts.specs.Belts.{made};
 ghost use Rattle.belts.specs.Layouts.{ring_of, after};
-ghost use Rattle.std.proofs.Common.{rules, arith};
+ghost use Rattle.std.proofs.Common.{rules};
 
 use super::Ring;
 use crate::belt::Belt;
@@ -34,7 +34,7 @@ impl Ring {
 impl Store for Ring {
     ghost stored = { ring_of };
 
-    ghost narrow = { first_of (Prim.search rules, Prim.grind (arith, Self.row.coded.inj)) };
+    ghost narrow = { Prim.search rules };
 
     fn capacity(&self) -> u8 {
         self.places
@@ -76,7 +76,7 @@ impl Store for Ring {
 impl Belt for Ring {
     ghost model = { ring_of };
 
-    ghost small = { first_of (Prim.search rules, Prim.grind (arith, Self.row.coded.inj)) };
+    ghost small = { Prim.search rules };
 
     fn places(&self) -> u16 {
         self.places as u16

@@ -1,7 +1,7 @@
 ghost use Rattle.std.specs.Prelude.{◌≡◌};
 ghost use Rattle.belts.specs.Belts.{made};
 ghost use Rattle.belts.specs.Layouts.{row_of};
-ghost use Rattle.std.proofs.Common.{rules, arith};
+ghost use Rattle.std.proofs.Common.{rules};
 
 use super::PackedRow;
 use crate::belt::Belt;
@@ -24,7 +24,7 @@ impl PackedRow {
 impl Store for PackedRow {
     ghost stored = { row_of };
 
-    ghost narrow = { first_of (Prim.search rules, Prim.grind (arith, Self.row.coded.inj)) };
+    ghost narrow = { Prim.search rules };
 
     fn capacity(&self) -> u8 {
         self.places
@@ -59,7 +59,7 @@ impl Store for PackedRow {
 impl Belt for PackedRow {
     ghost model = { row_of };
 
-    ghost small = { first_of (Prim.search rules, Prim.grind (arith, Self.row.coded.inj)) };
+    ghost small = { Prim.search rules };
 
     fn places(&self) -> u16 {
         self.places as u16

@@ -1,5 +1,4 @@
-ghost use Rattle.std.specs.Prelude.{◌≡◌, ◌*◌, ◌≤◌, false, count_by, MatchResult};
-ghost use Rattle.sheet.specs.Nodes.{is_belt};
+ghost use Rattle.std.specs.Prelude.{◌≡◌, ◌*◌, MatchResult};
 ghost use Rattle.sheet.specs.Views.{nodes_in};
 ghost use Rattle.derivation.specs.Tables.{rows_in, Tabled, Untabled};
 
@@ -8,7 +7,7 @@ use crate::flow::WORK;
 use crate::rows::fill_rows;
 use crate::table::Table;
 use forms::Forms;
-use sheet::fault::{Fault, Refusal};
+use sheet::fault::Fault;
 use sheet::sheet::Sheet;
 use terms::Term;
 use terms::sets::EMPTY;
