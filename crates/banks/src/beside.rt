@@ -7,7 +7,7 @@ ghost use Rattle.banks.specs.Standing.{beside_each};
 use crate::bank::{Bank, MOST};
 
 // Two banks side by side: the second's belts are numbered after the first's, and the first 32 are shown.
-#[derive(Drop)]
+#[derive(Clone, Copy, Debug, Drop)]
 pub struct Beside<X, Y> {
     first: X,
     second: Y,
@@ -18,7 +18,6 @@ pub struct Beside<X, Y> {
 pub(crate) enum Side {
     First(usize),
     Second(usize),
-    Neither,
 }
 
 impl<X: Bank, Y: Bank> Beside<X, Y> {
@@ -29,17 +28,17 @@ impl<X: Bank, Y: Bank> Beside<X, Y> {
         Beside { first, second }
     }
 
-    // Where the belt of a number stands.
-    fn side(&self, i: usize) -> Side
+    // Where the belt of a number stands, absent past the end.
+    fn side(&self, i: usize) -> Option<Side>
         ensures { StandsAt (X.belts self.now.first) (Y.belts self.now.second) i result }
     {
         let n = self.first.size();
         if i < n {
-            Side::First(i)
+            Some(Side::First(i))
         } else if i < MOST {
-            Side::Second(i - n)
+            Some(Side::Second(i - n))
         } else {
-            Side::Neither
+            None
         }
     }
 }
@@ -59,57 +58,55 @@ impl<X: Bank, Y: Bank> Bank for Beside<X, Y> {
 
     fn places(&self, i: usize) -> u16 {
         match self.side(i) {
-            Side::First(k) => self.first.places(k),
-            Side::Second(k) => self.second.places(k),
-            Side::Neither => 0,
+            Some(Side::First(k)) => self.first.places(k),
+            Some(Side::Second(k)) => self.second.places(k),
+            None => 0,
         }
     }
 
     fn width(&self, i: usize) -> u8 {
         match self.side(i) {
-            Side::First(k) => self.first.width(k),
-            Side::Second(k) => self.second.width(k),
-            Side::Neither => 0,
+            Some(Side::First(k)) => self.first.width(k),
+            Some(Side::Second(k)) => self.second.width(k),
+            None => 0,
         }
     }
 
     fn count(&self, i: usize) -> u16 {
         match self.side(i) {
-            Side::First(k) => self.first.count(k),
-            Side::Second(k) => self.second.count(k),
-            Side::Neither => 0,
+            Some(Side::First(k)) => self.first.count(k),
+            Some(Side::Second(k)) => self.second.count(k),
+            None => 0,
         }
     }
 
     fn head(&self, i: usize) -> Option<u8> {
-        match self.side(i) {
+        match self.side(i)? {
             Side::First(k) => self.first.head(k),
             Side::Second(k) => self.second.head(k),
-            Side::Neither => None,
         }
     }
 
     fn put(&mut self, i: usize, word: u8) -> bool {
         match self.side(i) {
-            Side::First(k) => self.first.put(k, word),
-            Side::Second(k) => self.second.put(k, word),
-            Side::Neither => false,
+            Some(Side::First(k)) => self.first.put(k, word),
+            Some(Side::Second(k)) => self.second.put(k, word),
+            None => false,
         }
     }
 
     fn take(&mut self, i: usize) -> Option<u8> {
-        match self.side(i) {
+        match self.side(i)? {
             Side::First(k) => self.first.take(k),
             Side::Second(k) => self.second.take(k),
-            Side::Neither => None,
         }
     }
 
     fn clear(&mut self, i: usize) {
         match self.side(i) {
-            Side::First(k) => self.first.clear(k),
-            Side::Second(k) => self.second.clear(k),
-            Side::Neither => {}
+            Some(Side::First(k)) => self.first.clear(k),
+            Some(Side::Second(k)) => self.second.clear(k),
+            None => {}
         }
     }
 }

@@ -6,7 +6,7 @@ use belts::row::PackedRow;
 pub mod calls;
 
 // A rack of 1 to 32 packed rows: the first `size` rows of the array are in use.
-#[derive(Drop)]
+#[derive(Clone, Copy, Debug)]
 pub struct Rack {
     rows: [PackedRow; MOST],
     size: usize,

@@ -5,7 +5,7 @@ use crate::bank::Bank;
 use belts::belt::Belt;
 
 // One belt as a bank.
-#[derive(Drop)]
+#[derive(Clone, Copy, Debug, Drop)]
 pub struct Single<B> {
     belt: B,
 }

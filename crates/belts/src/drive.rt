@@ -4,14 +4,14 @@ ghost use Rattle.belts.specs.Order.{answer, next, answered, driven, InOrder};
 use crate::belt::Belt;
 
 // A call that changes a belt: putting a word, or taking the oldest.
-#[derive(Clone, Copy)]
+#[derive(Clone, Copy, PartialEq, Eq, Debug)]
 pub enum Call {
     Put(u8),
     Take,
 }
 
 // What a put said, or what a take gave.
-#[derive(Clone, Copy, PartialEq, Debug)]
+#[derive(Clone, Copy, PartialEq, Eq, Debug)]
 pub enum Answer {
     Said(bool),
     Gave(Option<u8>),
@@ -35,8 +35,8 @@ fn log_calls<B: Belt>(belt: &mut B, calls: &[Call], answers: &mut [Answer], done
     ensures after { B.model belt.new ≡ driven (take done calls.now) (B.model belt.old) }
     ensures order { InOrder (B.model belt.old) calls.now (take done answers.new) (B.model belt.new) }
 {
-    for i in 0..done {
-        answers[i] = perform(belt, calls[i]);
+    for (i, call) in calls[0..done].iter().enumerate() {
+        answers[i] = perform(belt, *call);
     }
 }
 

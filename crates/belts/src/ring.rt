@@ -4,7 +4,7 @@ pub mod calls;
 
 // A ring (circular buffer) of 1 to 16 words: the next word enters at `enter`, the oldest leaves at `leave`.
 // Where the two meet, the mark tells a full ring from an empty one.
-#[derive(Drop)]
+#[derive(Clone, Copy, Debug)]
 pub struct Ring {
     cells: [u8; 16],
     places: u8,

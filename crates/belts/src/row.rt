@@ -3,7 +3,7 @@ ghost use Rattle.std.specs.Prelude.{◌*◌, ◌^◌, ◌<◌, ◌≤◌};
 pub mod calls;
 
 // A packed row of 1 to 16 words: four bits each in one number, the oldest in the lowest bits.
-#[derive(Clone, Copy)]
+#[derive(Clone, Copy, PartialEq, Eq, Debug)]
 pub struct PackedRow {
     bits: u64,
     count: u8,

@@ -1,11 +1,11 @@
 ghost use Rattle.std.specs.Prelude.{◌≡◌, true, []};
-ghost use Rattle.belts.specs.Belts.{counted, roomy, joining, in_series};
+ghost use Rattle.belts.specs.Belts.{roomy, joining, in_series};
 ghost use Rattle.std.proofs.Common.{rules};
 
 use crate::belt::{Belt, cut_to};
 
 // Two belts as one, whatever they hold: the front has the older words, which leave first.
-#[derive(Drop)]
+#[derive(Clone, Copy, Debug, Drop)]
 pub struct Series<F, R> {
     front: F,
     rear: R,
@@ -18,13 +18,6 @@ impl<F: Belt, R: Belt> Series<F, R> {
     {
         Series { front, rear }
     }
-
-    // How many words both hold, or 65,535 where they are more.
-    fn held(&self) -> u16
-        ensures { result ≡ counted (in_series (F.model self.now.front) (R.model self.now.rear)) }
-    {
-        self.front.count().saturating_add(self.rear.count())
-    }
 }
 
 // Moves words up from the rear while the front has room.
@@ -33,12 +26,10 @@ fn move_up<F: Belt, R: Belt>(front: &mut F, rear: &mut R)
     ensures settled { roomy (F.model front.new) ≡ true → (R.model rear.new).words ≡ [] }
 {
     while front.room() {
-        match rear.take() {
-            Some(word) => {
-                front.put(word);
-            }
-            None => return,
-        }
+        let Some(word) = rear.take() else {
+            return;
+        };
+        front.put(word);
     }
 }
 
@@ -70,18 +61,13 @@ impl<F: Belt, R: Belt> Belt for Series<F, R> {
     }
 
     fn count(&self) -> u16 {
-        self.held()
+        self.front.count().saturating_add(self.rear.count())
     }
 
     fn head(&self) -> Option<u8> {
         let width = self.width();
-        match self.front.head() {
-            Some(word) => Some(cut_to(width, word)),
-            None => match self.rear.head() {
-                Some(word) => Some(cut_to(width, word)),
-                None => None,
-            },
-        }
+        let word = self.front.head().or_else(|| self.rear.head());
+        word.map(|word| cut_to(width, word))
     }
 
     fn put(&mut self, word: u8) -> bool {
@@ -93,13 +79,10 @@ impl<F: Belt, R: Belt> Belt for Series<F, R> {
 
     fn take(&mut self) -> Option<u8> {
         let width = self.width();
-        match self.front.take() {
-            Some(word) => Some(cut_to(width, word)),
-            None => match self.rear.take() {
-                Some(word) => Some(cut_to(width, word)),
-                None => None,
-            },
+        if let Some(word) = self.front.take() {
+            return Some(cut_to(width, word));
         }
+        self.rear.take().map(|word| cut_to(width, word))
     }
 
     fn clear(&mut self) {

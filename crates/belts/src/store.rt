@@ -1,7 +1,7 @@
 ghost use Rattle.std.specs.Prelude.{◌≡◌, ◌<◌, ◌≤◌, true, [], ◌∷◌, ◌++◌, Some};
-ghost use Rattle.belts.specs.Belts.{Model, holding, counted, roomy, head_of, putting, taking};
+ghost use Rattle.belts.specs.Belts.{Model, holding, counted, roomy, head_of, taking, clearing, nearer};
 
-use crate::belt::cut_to;
+use crate::belt::{Belt, cut_to};
 
 // What differs between a ring and a packed row: how words of four bits are kept. What a belt does with them is said once, below.
 pub(crate) trait Store {
@@ -34,41 +34,63 @@ pub(crate) trait Store {
         requires { 0 < counted (stored self.old) }
         ensures { stored self.new ≡ taking (stored self.old) };
 
-    ghost narrow: { (s : Self) → (stored s).width ≤ 4 };
+    // Lets every word go.
+    fn empty(&mut self)
+        ensures { stored self.new ≡ clearing (stored self.old) };
+
+    ghost within: { (s : Self) → ((stored s).places ≤ 65535) × ((stored s).width ≤ 4) };
 }
 
-// The oldest word, which stays.
-pub(crate) fn head_of<S: Store>(store: &S) -> Option<u8>
-    ensures { result ≡ head_of (S.stored store.now) }
+// The figures of a new store. One outside 1 to 16 places or 0 to 4 bits counts as the nearer end.
+pub(crate) fn nearest(places: u8, width: u8) -> (u8, u8)
+    ensures { result ≡ (nearer 1 16 places, nearer 0 4 width) }
 {
-    if store.held() == 0 {
-        return None;
-    }
-    Some(store.oldest())
+    (places.clamp(1, 16), width.min(4))
 }
 
-// Keeps the word, cut to the width, where there is room, and says whether there was.
-pub(crate) fn put_into<S: Store>(store: &mut S, word: u8) -> bool
-    ensures said { result ≡ roomy (S.stored store.old) }
-    ensures kept { S.stored store.new ≡ putting word (S.stored store.old) }
-{
-    if store.held() >= store.capacity() {
-        return false;
-    }
-    let width = store.word_width();
-    store.append(cut_to(width, word));
-    true
-}
+impl<S: Store> Belt for S {
+    ghost model = { S.stored };
 
-// Lets the oldest word go, and answers it.
-pub(crate) fn take_from<S: Store>(store: &mut S) -> Option<u8>
-    ensures said { result ≡ head_of (S.stored store.old) }
-    ensures kept { S.stored store.new ≡ taking (S.stored store.old) }
-{
-    if store.held() == 0 {
-        return None;
+    ghost small = { S.within };
+
+    fn places(&self) -> u16 {
+        u16::from(self.capacity())
     }
-    let word = store.oldest();
-    store.advance();
-    Some(word)
+
+    fn width(&self) -> u8 {
+        self.word_width()
+    }
+
+    fn count(&self) -> u16 {
+        u16::from(self.held())
+    }
+
+    fn head(&self) -> Option<u8> {
+        if self.held() == 0 {
+            return None;
+        }
+        Some(self.oldest())
+    }
+
+    fn put(&mut self, word: u8) -> bool {
+        if self.held() >= self.capacity() {
+            return false;
+        }
+        let width = self.word_width();
+        self.append(cut_to(width, word));
+        true
+    }
+
+    fn take(&mut self) -> Option<u8> {
+        if self.held() == 0 {
+            return None;
+        }
+        let word = self.oldest();
+        self.advance();
+        Some(word)
+    }
+
+    fn clear(&mut self) {
+        self.empty();
+    }
 }

@@ -77,48 +77,14 @@ mod tests {
 
     // How many words of a plain list lie on a belt.
     fn count_of(list: &[Lying], belt: usize) -> u16 {
-        let mut n: u16 = 0;
-        for item in list {
-            if item.belt == belt {
-                n = n.saturating_add(1);
-            }
-        }
-        n
+        let n = list.iter().filter(|item| item.belt == belt).count();
+        u16::try_from(n).unwrap_or(u16::MAX)
     }
 
     // The first word of a plain list that lies on a belt.
     fn head_of(list: &[Lying], belt: usize) -> Option<u8> {
-        for item in list {
-            if item.belt == belt {
-                return Some(item.word);
-            }
-        }
-        None
-    }
-
-    // The same list without that word.
-    fn without_head(heap: Global, list: &[Lying], belt: usize) -> Result<Vec<Lying>, Fail> {
-        let mut rest = Vec::new(heap);
-        let mut gone = false;
-        for item in list {
-            if !gone && item.belt == belt {
-                gone = true;
-            } else {
-                rest.push(*item)?;
-            }
-        }
-        Ok(rest)
-    }
-
-    // The same list without any word of a belt.
-    fn without(heap: Global, list: &[Lying], belt: usize) -> Result<Vec<Lying>, Fail> {
-        let mut rest = Vec::new(heap);
-        for item in list {
-            if item.belt != belt {
-                rest.push(*item)?;
-            }
-        }
-        Ok(rest)
+        let item = list.iter().find(|item| item.belt == belt)?;
+        Some(item.word)
     }
 
     // The bits of a word that a width keeps.
@@ -137,76 +103,79 @@ mod tests {
         seed.wrapping_mul(1664525).wrapping_add(1013904223)
     }
 
-    // Every question about one belt, against the list.
-    fn look<B: Bank>(rt: &impl Abort, bank: &B, list: &[Lying], figures: Figures, i: usize) {
-        let there = i < figures.belts as usize;
-        let places = if there { figures.places } else { 0 };
-        assert_eq!(rt; bank.size(), figures.belts as usize);
-        assert_eq!(rt; bank.places(i), places);
-        assert_eq!(rt; bank.width(i), if there { figures.width } else { 0 });
-        assert_eq!(rt; bank.count(i), count_of(list, i));
-        assert_eq!(rt; bank.room(i), count_of(list, i) < places);
-        assert_eq!(rt; bank.head(i), head_of(list, i));
+    // A bank, and the plain list that it is set against.
+    #[derive(Drop)]
+    struct Beheld<B> {
+        bank: B,
+        list: Vec<Lying>,
+        figures: Figures,
     }
 
-    // One call, made on the bank and on the list.
-    fn step<B: Bank>(
-        rt: &impl Abort,
-        heap: Global,
-        bank: &mut B,
-        mut list: Vec<Lying>,
-        figures: Figures,
-        i: usize,
-        drawn: u32,
-    ) -> Result<Vec<Lying>, Fail> {
-        let places = if i < figures.belts as usize {
-            figures.places
-        } else {
-            0
-        };
-        match (drawn >> 8) % 64 {
-            0 => {
-                bank.clear(i);
-                without(heap, &list, i)
+    impl<B: Bank + Drop> Beheld<B> {
+        // How many places a belt of a number has.
+        fn places(&self, i: usize) -> u16 {
+            if i < usize::from(self.figures.belts) {
+                self.figures.places
+            } else {
+                0
             }
-            1..=38 => {
-                let word = (drawn >> 24) as u8;
-                let fits = count_of(&list, i) < places;
-                assert_eq!(rt; bank.put(i, word), fits);
-                if fits {
-                    list.push(Lying {
-                        belt: i,
-                        word: word & kept_bits(figures.width),
-                    })?;
+        }
+
+        // Every question about one belt, against the list.
+        fn look(&self, rt: &impl Abort, i: usize) {
+            let there = i < usize::from(self.figures.belts);
+            let count = count_of(&self.list, i);
+            assert_eq!(rt; self.bank.size(), usize::from(self.figures.belts));
+            assert_eq!(rt; self.bank.places(i), self.places(i));
+            assert_eq!(rt;
+                self.bank.width(i),
+                if there { self.figures.width } else { 0 }
+            );
+            assert_eq!(rt; self.bank.count(i), count);
+            assert_eq!(rt; self.bank.room(i), count < self.places(i));
+            assert_eq!(rt; self.bank.head(i), head_of(&self.list, i));
+        }
+
+        // One call, made on the bank and on the list.
+        fn step(&mut self, rt: &impl Abort, i: usize, drawn: u32) -> Result<(), Fail> {
+            match (drawn >> 8) % 64 {
+                0 => {
+                    self.bank.clear(i);
+                    self.list.retain(|item| item.belt != i);
                 }
-                Ok(list)
+                1..=38 => {
+                    let word = (drawn >> 24) as u8;
+                    let fits = count_of(&self.list, i) < self.places(i);
+                    assert_eq!(rt; self.bank.put(i, word), fits);
+                    if fits {
+                        let word = word & kept_bits(self.figures.width);
+                        self.list.push(Lying { belt: i, word })?;
+                    }
+                }
+                _ => {
+                    assert_eq!(rt; self.bank.take(i), head_of(&self.list, i));
+                    if let Some(k) = self.list.iter().position(|item| item.belt == i) {
+                        self.list.remove(k);
+                    }
+                }
             }
-            _ => {
-                assert_eq!(rt; bank.take(i), head_of(&list, i));
-                without_head(heap, &list, i)
-            }
+            Ok(())
         }
-    }
 
-    // A long script of calls on a bank, one number past its end among them; every belt is looked at after each call.
-    fn run<B: Bank>(
-        rt: &impl Abort,
-        heap: Global,
-        bank: &mut B,
-        mut list: Vec<Lying>,
-        figures: Figures,
-    ) -> Result<(), Fail> {
-        let numbers = figures.belts as usize + 1;
-        let mut drawn: u32 = 2024;
-        for _ in 0..CALLS {
-            drawn = next(drawn);
-            let i = (drawn >> 16) as usize % numbers;
-            list = step(rt, heap, bank, list, figures, i, next(drawn))?;
-            for k in 0..numbers {
-                look(rt, bank, &list, figures, k);
+        // A long script of calls, one number past the bank's end among them; every belt is looked at after each call.
+        fn run(mut self, rt: &impl Abort) -> Result<(), Fail> {
+            let numbers = usize::from(self.figures.belts) + 1;
+            let mut drawn: u32 = 2024;
+            for _ in 0..CALLS {
+                drawn = next(drawn);
+                let i = (drawn >> 16) as usize % numbers;
+                self.step(rt, i, next(drawn))?;
+                for k in 0..numbers {
+                    self.look(rt, k);
+                }
             }
+            Ok(())
         }
-        Ok(())
     }
 
     // The script on one belt that is empty at first.
@@ -222,7 +191,14 @@ mod tests {
             places,
             width,
         };
-        run(rt, heap, &mut Single::new(belt), Vec::new(heap), figures)
+        let bank = Single::new(belt);
+        let list = Vec::new(heap);
+        Beheld {
+            bank,
+            list,
+            figures,
+        }
+        .run(rt)
     }
 
     #[test]
@@ -237,6 +213,18 @@ mod tests {
         run_belt(&rt, rt.alloc(), PackedRow::new(16, 4), 16, 4)?;
         run_belt(&rt, rt.alloc(), PackedRow::new(7, 1), 7, 1)?;
         run_belt(&rt, rt.alloc(), PackedRow::new(99, 0), 16, 0)
+    }
+
+    // Rows with the same words, places and width are equal, and a copy goes its own way.
+    #[test]
+    fn equal_rows(rt: HostRuntime) {
+        let mut row = PackedRow::new(0, 9);
+        assert_eq!(rt; row, PackedRow::new(1, 4));
+        let before = row;
+        assert!(rt; row.put(3));
+        assert_ne!(rt; row, before);
+        assert_eq!(rt; row.take(), Some(3));
+        assert_eq!(rt; row, before);
     }
 
     // A series whose middle belt has no places.
@@ -268,13 +256,13 @@ mod tests {
             places: 7,
             width: 3,
         };
-        run(
-            &rt,
-            heap,
-            &mut Single::new(Series::new(front, rear)),
+        let bank = Single::new(Series::new(front, rear));
+        Beheld {
+            bank,
             list,
             figures,
-        )
+        }
+        .run(&rt)
     }
 
     #[test]
@@ -284,25 +272,32 @@ mod tests {
             places: 16,
             width: 4,
         };
-        run(
-            &rt,
-            rt.alloc(),
-            &mut six_lanes(),
-            Vec::new(rt.alloc()),
+        let bank = six_lanes();
+        let list = Vec::new(rt.alloc());
+        Beheld {
+            bank,
+            list,
             figures,
-        )
+        }
+        .run(&rt)
     }
 
     // Of twenty belts beside twenty, 32 are shown.
     #[test]
     fn racks_beside(rt: HostRuntime) -> Result<(), Fail> {
-        let mut bank = Beside::new(Rack::new(20, 2, 3), Rack::new(20, 2, 3));
+        let bank = Beside::new(Rack::new(20, 2, 3), Rack::new(20, 2, 3));
         let figures = Figures {
             belts: 32,
             places: 2,
             width: 3,
         };
-        run(&rt, rt.alloc(), &mut bank, Vec::new(rt.alloc()), figures)
+        let list = Vec::new(rt.alloc());
+        Beheld {
+            bank,
+            list,
+            figures,
+        }
+        .run(&rt)
     }
 
     // Five answers for seven calls: the calls stop there, and the place after the fifth stays.
@@ -320,12 +315,15 @@ mod tests {
         let mut log = [Answer::Said(false); 6];
         let mut belt = Ring::new(2, 4);
         assert_eq!(rt; drive(&mut belt, &calls, &mut log[0..5]), 5);
-        assert_eq!(rt; log[0], Answer::Said(true));
-        assert_eq!(rt; log[1], Answer::Said(true));
-        assert_eq!(rt; log[2], Answer::Said(false));
-        assert_eq!(rt; log[3], Answer::Gave(Some(9)));
-        assert_eq!(rt; log[4], Answer::Gave(Some(4)));
-        assert_eq!(rt; log[5], Answer::Said(false));
+        let answers = [
+            Answer::Said(true),
+            Answer::Said(true),
+            Answer::Said(false),
+            Answer::Gave(Some(9)),
+            Answer::Gave(Some(4)),
+            Answer::Said(false),
+        ];
+        assert_eq!(rt; log, answers);
         assert_eq!(rt; belt.count(), 0);
     }
 }

@@ -1,7 +1,8 @@
 -- From a table and its elimination to what derivation answers and writes.
-use Rattle.std.proofs.Common.{◌≡◌, ℕ, suc, ◌+◌, ◌*◌, ◌<◌, ◌≤◌, Bool, true, false, cond, ltb, List, [], ◌∷◌, ◌++◌, map, length, drop, ℤ, IfOk, Some, None, Ok, Err, count_by, Option, Result, sym, refl, ap, ◌∙◌, subst, ap₂, suc-mul, zero-mul, arith, MatchResult}
+use Rattle.std.proofs.Common.{◌≡◌, ℕ, suc, ◌+◌, ◌*◌, ◌<◌, ◌≤◌, Bool, true, false, cond, ltb, List, [], ◌∷◌, ◌++◌, map, length, drop, ℤ, IfOk, Some, None, Ok, Err, count_by, Option, Result, sym, refl, ap, ◌∙◌, subst, ap₂, suc-mul, zero-mul, arith}
 use Rattle.std.specs.List.{flat_map, AllByRecursion}
 use Rattle.std.proofs.lemmas.List.{append_assoc, append-nil, map-append, length-append, length-map, take_at, drop_at}
+use Rattle.std.proofs.lemmas.List.Folds.{flat_map-map}
 use Rattle.std.proofs.lemmas.Bool.{and_from, le-leb, ltb-false, eq-eqb}
 use Rattle.sheet.specs.declared.node.Node.{Node}
 use Rattle.sheet.specs.declared.fault.Fault.{Fault}
@@ -11,7 +12,7 @@ use Rattle.sheet.specs.Outcomes.{Outcome, written}
 use Rattle.sheet.specs.Refusals.{and_then, refuse_if}
 use Rattle.terms.specs.Forms.{Form}
 use Rattle.forms.specs.Gates.{limits}
-use Rattle.kinds.specs.Kinds.{Kind, wholes, parities}
+use Rattle.kinds.specs.Kinds.{Kind}
 use Rattle.kinds.specs.Elimination as E
 use Rattle.kinds.specs.Elimination.{State, any_past, handled, added, eliminated, eliminate, starts}
 use Rattle.elimination.specs.declared.solve.EliminationError.{EliminationError}
@@ -25,16 +26,16 @@ use Rattle.flows.specs.Completeness.{Complete, gain}
 use Rattle.flows.proofs.Complete.{CountsZero}
 use Rattle.flows.proofs.Derived.{flows_length, derived_complete}
 use Rattle.derivation.specs.declared.table.Table.{Table}
-use Rattle.derivation.specs.Tables.{rows_in, tested, tested_first, Tabled, Untabled, Tabulated, Refuses, by_belt, Rowed}
+use Rattle.derivation.specs.Tables.{rows_in, tested, tested_first, Tabled, Tabulated, by_belt, Rowed}
 
 -- ---- rows of m numbers, one after another
 
-length_joined : {A : Type 0} (m : ℕ) (rows : List (List A)) → AllByRecursion (λ r. length r ≡ m) rows → length (flat_map (λ r. r) rows) ≡ length rows * m
+pub length_joined : {A : Type 0} (m : ℕ) (rows : List (List A)) → AllByRecursion (λ r. length r ≡ m) rows → length (flat_map (λ r. r) rows) ≡ length rows * m
 length_joined m [] h = sym (zero-mul m)
 length_joined m (r ∷ rows) h = length-append r (flat_map (λ s. s) rows) ∙ omega (arith, h.0, length_joined m rows h.1, suc-mul (length rows) m)
 
 -- they are read back as they are, whatever follows
-rows_back : {A : Type 0} (m : ℕ) (rows : List (List A)) (rest : List A) → AllByRecursion (λ r. length r ≡ m) rows → rows_of (length rows) m (flat_map (λ r. r) rows ++ rest) ≡ rows
+pub rows_back : {A : Type 0} (m : ℕ) (rows : List (List A)) (rest : List A) → AllByRecursion (λ r. length r ≡ m) rows → rows_of (length rows) m (flat_map (λ r. r) rows ++ rest) ≡ rows
 rows_back m [] rest h = refl
 rows_back m (r ∷ rows) rest h =
     let more = flat_map (λ s. s) rows ++ rest in
@@ -101,7 +102,7 @@ module _ (K : Kind) (ns : List Node) (weights : List ℤ) where
       by false (Ok n) false = refl
 
   -- a test that fails is told, and nothing changes
-  refused : (e : Fault) → tested_first ns (length weights) ≡ Err e → ◌≡◌ {A = Outcome ℕ ℤ} (record { answer = Err e; memory = weights }) (derive K ns weights)
+  pub refused : (e : Fault) → tested_first ns (length weights) ≡ Err e → ◌≡◌ {A = Outcome ℕ ℤ} (record { answer = Err e; memory = weights }) (derive K ns weights)
   refused e h = sym (ap (λ r. written length (flat_map (λ w. w)) r weights) (by_tests ∙ ap (λ r. and_then r (λ _. as_written K solution)) h))
 
   -- the tests have passed
@@ -109,18 +110,14 @@ module _ (K : Kind) (ns : List Node) (weights : List ℤ) where
     derivation : derive K ns weights ≡ written length (flat_map (λ w. w)) (as_written K solution) weights
     derivation = ap (λ r. written length (flat_map (λ w. w)) r weights) (by_tests ∙ ap (λ r. and_then r (λ _. as_written K solution)) h)
 
-    joined_written : (ws : List (List K.Num)) → flat_map (map K.writes) ws ≡ flat_map (λ w. w) (map (map K.writes) ws)
-    joined_written [] = refl
-    joined_written (w ∷ ws) = ap (λ zs. map K.writes w ++ zs) (joined_written ws)
-
     -- an elimination's answer, with a row past the limit named by its belt, is that of derivation
     as_derived : (x : Result (List (List K.Num)) ℕ) → solution ≡ x → (r : Result ℕ EliminationError × List ℤ) → r ≡ answered K weights x
         → ◌≡◌ {A = Outcome ℕ ℤ} (record { answer = by_belt r.0; memory = r.1 }) (derive K ns weights)
     as_derived (Ok ws) e r f =
-        let same = joined_written ws in
+        let same = flat_map-map (λ w. w) (map K.writes) ws in
         ap (λ p. record { answer = by_belt p.0; memory = p.1 }) f
         ∙ sym (derivation ∙ ap (λ y. written length (flat_map (λ w. w)) (as_written K y) weights) e
-        ∙ ap₂ (λ k zs. record { answer = Ok k; memory = zs ++ drop (length zs) weights }) (length-map ws (map K.writes)) (sym same))
+        ∙ ap₂ (λ k zs. record { answer = Ok k; memory = zs ++ drop (length zs) weights }) (length-map ws (map K.writes)) same)
     as_derived (Err b) e r f =
         ap (λ p. record { answer = by_belt p.0; memory = p.1 }) f ∙ sym (derivation ∙ ap (λ y. written length (flat_map (λ w. w)) (as_written K y) weights) e)
 
@@ -185,13 +182,6 @@ module _ {K : Kind} {Z : ℤ → Type 0} (C : CountsZero K Z) (ns : List Node) (
       by false (Ok balances) f g m =
           let all = derived_complete C ns balances f in
           rw g (subst (Complete Z n (gain ns)) (sym (ap (rows_of (length balances) n) m ∙ rows_back n balances (drop (length (flat_map (λ w. w) balances)) weights) all.sized)) all)
-
--- a sheet's table, or its first limit, where there is room for the weights
-pub tabulated : (ns : List Node) (room : ℕ) (r : Result Table Fault) → ltb room (count_by is_belt ns * count_by is_belt ns) ≡ false → MatchResult r (Tabled ns) (Untabled ns) → MatchResult r (Tabulated ns room) (Refuses ns room)
-tabulated ns room (Ok t) e c = record { passed = ap (λ b. refuse_if b ShortWeights 0 (tested ns)) e ∙ c.accepted; tabled = c }
-tabulated ns room (Err x) e c =
-    λ weights l. let h : tested_first ns (length weights) ≡ Err x = ap (tested_first ns) l ∙ ap (λ b. refuse_if b ShortWeights 0 (tested ns)) e ∙ c in
-    (refused wholes ns weights x h, refused parities ns weights x h)
 
 -- an elimination of the rows xs of a sheet's table, as a call has it: what is told and written is derivation's, and complete
 module _ {K : Kind} {Z : ℤ → Type 0} (C : CountsZero K Z) (ns : List Node) (weights : List ℤ) (t : Table) (tab : Tabulated ns (length weights) t)

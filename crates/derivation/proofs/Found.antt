@@ -71,30 +71,17 @@ module _ (flow : List Term) (first : List ℕ) (start : ℕ) where
     pub found : Found (take n records)
     pub few : findings (take n records) ≤ start + i
 
-many : (records : List Term) (n : ℕ) → n ≤ length records → length (columns_in (take n records)) ≡ n
-many records n h = length-map (form_in (take n records)) (λ t. t.0) ∙ length-map (take n records) entry_of ∙ length-take-le n records h
+pub many_columns : (records : List Term) (n : ℕ) → n ≤ length records → length (columns_in (take n records)) ≡ n
+many_columns records n h = length-map (form_in (take n records)) (λ t. t.0) ∙ length-map (take n records) entry_of ∙ length-take-le n records h
 
 module _ (flow : List Term) (first : List ℕ) (start : ℕ) (before after : List Term) (n m i : ℕ) (h : i < length flow) (g : Going flow first start before n i)
     (l : Listed (findings (take n before) + 1) (listed (number_of (get_or flow i unread).set) (columns_in (take n before))) after m) where
   on : with_form (columns_in (take m after)) (form_in (drop (i + 1) flow)) ≡ with_form first (form_in flow)
   on = ap (λ cs. with_form cs (form_in (drop (i + 1) flow))) l.columns ∙ sym (at_drop_more (λ ts. with_form (columns_in (take n before)) (form_in ts)) flow i unread h) ∙ g.left
 
-  pub going_on : m ≤ 256 → Going flow first start after m (i + 1)
-  going_on k = record { within = l.within; most = k; left = on; found = l.found; few = omega (arith, l.few, g.few) }
-
   -- past 256 columns there is no way back
   pub too_many : 256 < m → 256 < length (with_form first (form_in flow))
-  too_many k = omega (arith, ap length on, columns_grow (columns_in (take m after)) (form_in (drop (i + 1) flow)), many after m l.within)
-
-module _ (flow : List Term) (first : List ℕ) (start : ℕ) (records : List Term) (n i : ℕ) where
-  pub all_found : i ≡ length flow → Going flow first start records n i → Listed (start + length flow) (with_form first (form_in flow)) records n
-  all_found e g =
-      record {
-        within = g.within;
-        columns = sym (at_drop_all (λ ts. with_form (columns_in (take n records)) (form_in ts)) flow i (omega arith)) ∙ g.left;
-        found = g.found;
-        few = omega (arith, g.few);
-      }
+  too_many k = omega (arith, ap length on, columns_grow (columns_in (take m after)) (form_in (drop (i + 1) flow)), many_columns after m l.within)
 
 -- the flows, one after another
 module _ (flows : List Form) where
@@ -104,9 +91,6 @@ module _ (flows : List Form) where
     pub left : with_forms (columns_in (take n records)) (drop b flows) ≡ columns_of flows
     pub found : Found (take n records)
     pub few : findings (take n records) ≤ b * 1200
-
-  pub none_gathered : (records : List Term) → Gathered records 0 0
-  none_gathered records = record { within = omega arith; most = omega arith; left = refl; found = tt; few = omega arith }
 
   module _ (before after flow : List Term) (n b : ℕ) (h : b < length flows) (g : Gathered before n b) (e : form_in flow ≡ get_or flows b []) where
     rest : with_forms (with_form (columns_in (take n before)) (form_in flow)) (drop (b + 1) flows) ≡ columns_of flows

@@ -1,5 +1,7 @@
 -- The lines of a belt, as the searches for them go.
 use Rattle.std.proofs.Common.{◌≡◌, ℕ, zero, suc, ◌+◌, ◌-◌, ◌<◌, ◌≤◌, Bool, true, false, cond, List, [], ◌∷◌, length, get_or, take, Some, unwrap_or, sym, refl, ap, ◌∙◌, add-zero, add-suc, suc-add, arith}
+use Rattle.std.specs.List.{filter_map}
+use Rattle.derivation.specs.Ports.{offer_and_take}
 use native.Mathlib.Nat.{sub-zero}
 use Rattle.std.proofs.lemmas.List.FromFn.{length-map-range_with_len, get_or-map-range_with_len}
 use Rattle.sheet.specs.declared.node.Node.{Node}
@@ -12,15 +14,12 @@ use Rattle.terms.specs.Records.{form_in}
 use Rattle.flows.specs.Flows.{line_where, flow_by, ports_of}
 use Rattle.derivation.specs.Memory.{flows_by}
 
--- a line that is no belt names none
-pub belts_other : (n : Node) (ns : List Node) → ((o t : ℕ) → n ≡ Belt o t → ⊥) → belts_of (n ∷ ns) ≡ belts_of ns
-belts_other (Free s) ns h = refl
-belts_other (Belt o t) ns h = absurd (h o t refl)
-belts_other (Gate g) ns h = refl
-
-pub get_d_pass : {A : Type 0} (d x : A) (xs : List A) (k j : ℕ) → (k ≡ 0 → ⊥) → j ≡ k - 1 → get_or xs j d ≡ get_or (x ∷ xs) k d
-get_d_pass d x xs zero j h e = absurd (h refl)
-get_d_pass d x xs (suc k) j h e = ap (λ i. get_or xs i d) (e ∙ omega arith)
+-- the belts' wires, as the lines tell them
+pub belts_told : (ns : List Node) → filter_map offer_and_take ns ≡ belts_of ns
+belts_told [] = refl
+belts_told (Free s ∷ ns) = belts_told ns
+belts_told (Belt o t ∷ ns) = ap (λ bs. (o, t) ∷ bs) (belts_told ns)
+belts_told (Gate g ∷ ns) = belts_told ns
 
 -- the first line that passes a test, by the search for the lowest
 pub lowest_line : (p : Node → Bool) (i : ℕ) (ns : List Node) → unwrap_or (lowest (λ _ n. p n) i ns) (i + length ns) ≡ i + line_where p ns

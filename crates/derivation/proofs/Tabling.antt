@@ -1,8 +1,9 @@
 -- From columns and rows in memory to the table of a sheet's flows.
-use Rattle.std.proofs.Common.{◌≡◌, ℕ, ◌-◌, ◌*◌, ◌<◌, ◌≤◌, List, [], ◌∷◌, ◌++◌, map, length, take, ℤ, Ok, Err, count_by, sym, refl, ap, ◌∙◌, ap₂, arith}
+use Rattle.std.proofs.Common.{◌≡◌, ℕ, ◌-◌, ◌*◌, ◌<◌, ◌≤◌, List, length, take, ℤ, Ok, Err, count_by, sym, refl, ap, ◌∙◌, ap₂, arith}
 use native.Mathlib.Nat.{sub-zero}
 use Rattle.std.specs.List.{flat_map}
-use Rattle.std.proofs.lemmas.List.{length-map, length-take-le}
+use Rattle.std.proofs.lemmas.List.{length-take-le}
+use Rattle.std.proofs.lemmas.List.Folds.{flat_map-map}
 use Rattle.std.proofs.lemmas.Bool.{lt-ltb, le-ltb}
 use Rattle.sheet.specs.declared.node.Node.{Node}
 use Rattle.sheet.specs.declared.fault.Refusal.TheVariants.{ManyColumns}
@@ -10,47 +11,43 @@ use Rattle.sheet.specs.Nodes.{is_belt}
 use Rattle.sheet.specs.Refusals.{fault}
 use Rattle.terms.specs.declared.term.Term.{Term}
 use Rattle.terms.specs.Forms.{Form}
-use Rattle.terms.specs.Records.{entry_of, form_in}
 use Rattle.forms.specs.Slots.{Allowed}
 use Rattle.flows.specs.Columns.{columns_of, merged, table}
 use Rattle.flows.specs.Flows.{flows_of}
 use Rattle.flows.proofs.Flowing.{all_flows_rise}
 use Rattle.flows.proofs.Merging.{merges}
+use Rattle.derivation.proofs.Found.{many_columns}
 use Rattle.derivation.specs.Memory.{columns_in, flows_by, rows_over}
 use Rattle.derivation.specs.Tables.{tested}
 
--- rows one after another
-joined_rows : (f : Form → List ℤ) (flows : List Form) → flat_map f flows ≡ flat_map (λ row. row) (map f flows)
-joined_rows f [] = refl
-joined_rows f (p ∷ flows) = ap (λ zs. f p ++ zs) (joined_rows f flows)
+module _ (ns : List Node) (fs : List Form) (allowed : Allowed ns fs) where
+  abbrev belts : ℕ
+  belts = count_by is_belt ns
 
--- ms are the nodes as the code has them
-module _ (ns ms : List Node) (same : ms ≡ ns) (fs : List Form) (allowed : Allowed ns fs) (belts : ℕ) (all : belts ≡ count_by is_belt ns) where
-  same_flows : flows_by ms fs belts ≡ flows_of ns
-  same_flows = ap (λ xs. flows_by xs fs belts) same ∙ ap₂ (λ ps n. flows_by ns ps n) allowed.forms all
+  same_flows : flows_by ns fs belts ≡ flows_of ns
+  same_flows = ap (λ ps. flows_by ns ps belts) allowed.forms
 
   -- past 256 columns there is no table
-  pub past_columns : 256 < length (columns_of (flows_by ms fs belts)) → tested ns ≡ Err (fault ManyColumns 0)
+  pub past_columns : 256 < length (columns_of (flows_by ns fs belts)) → tested ns ≡ Err (fault ManyColumns 0)
   past_columns h =
       let many : 256 < length (columns_of (flows_of ns)) = rw same_flows at h in
       rw (allowed.within, lt-ltb 256 _ many) refl
 
   -- the first m records list the columns, and the rows of the flows over them are filled
-  module _ (found : List Term) (m : ℕ) (inside : m ≤ length found) (few : m ≤ 256) (listed : columns_in (take m found) ≡ columns_of (flows_by ms fs belts)) where
+  module _ (found : List Term) (m : ℕ) (inside : m ≤ length found) (few : m ≤ 256) (listed : columns_in (take m found) ≡ columns_of (flows_by ns fs belts)) where
     columns_are : columns_in (take m found) ≡ columns_of (flows_of ns)
     columns_are = listed ∙ ap columns_of same_flows
 
     pub columns_many : m ≡ length (columns_of (flows_of ns))
-    columns_many =
-        sym (length-map (form_in (take m found)) (λ t. t.0) ∙ length-map (take m found) entry_of ∙ length-take-le m found inside) ∙ ap length columns_are
+    columns_many = sym (many_columns found m inside) ∙ ap length columns_are
 
     pub within_limits : tested ns ≡ Ok tt
     within_limits = rw (allowed.within, le-ltb 256 (length (columns_of (flows_of ns))) (omega (arith, columns_many))) refl
 
-    pub table_rows : (numbers : List ℤ) → take (belts * length (take (m - 0) found)) numbers ≡ rows_over (columns_in (take (m - 0) found)) (flows_by ms fs belts) → take (belts * m) numbers ≡ flat_map (λ row. row) (table (flows_of ns))
+    pub table_rows : (numbers : List ℤ) → take (belts * length (take (m - 0) found)) numbers ≡ rows_over (columns_in (take (m - 0) found)) (flows_by ns fs belts) → take (belts * m) numbers ≡ flat_map (λ row. row) (table (flows_of ns))
     table_rows numbers e =
         let cut : length (take (m - 0) found) ≡ m = ap (λ k. length (take k found)) (sub-zero m) ∙ length-take-le m found inside in
         ap (λ k. take (belts * k) numbers) (sym cut) ∙ e
         ∙ ap₂ rows_over (ap (λ k. columns_in (take k found)) (sub-zero m) ∙ columns_are) same_flows
-        ∙ joined_rows (merged (columns_of (flows_of ns))) (flows_of ns)
+        ∙ sym (flat_map-map (λ row. row) (merged (columns_of (flows_of ns))) (flows_of ns))
         ∙ ap (flat_map (λ row. row)) (merges (flows_of ns) (all_flows_rise ns))

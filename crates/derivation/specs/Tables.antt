@@ -5,13 +5,10 @@ use Rattle.sheet.specs.declared.node.Node.{Node}
 use Rattle.sheet.specs.declared.fault.Fault.{Fault}
 use Rattle.sheet.specs.declared.fault.Refusal.TheVariants.{ShortWeights, ManyColumns, LargeNumber}
 use Rattle.sheet.specs.Nodes.{is_belt}
-use Rattle.sheet.specs.Outcomes.{Outcome}
 use Rattle.sheet.specs.Refusals.{fault, and_then, refuse_if}
 use Rattle.forms.specs.Gates.{limits}
-use Rattle.kinds.specs.Kinds.{wholes, parities}
 use Rattle.flows.specs.Flows.{flows_of}
 use Rattle.flows.specs.Columns.{columns_of, table}
-use Rattle.flows.specs.Derivation.{derive}
 use Rattle.elimination.specs.declared.solve.EliminationError.{EliminationError}
 use Rattle.elimination.specs.declared.solve.EliminationError.TheVariants as Why
 use Rattle.derivation.specs.declared.table.Table.{Table}
@@ -43,12 +40,9 @@ pub record Tabulated (ns : List Node) (room : ℕ) (t : Table) : Type 0 where
   pub passed : tested_first ns room ≡ Ok tt
   pub tabled : Tabled ns t
 
--- what derivation answers where a test fails, in either kind of number: the refusal, and the memory as it was
+-- what derivation answers where a test fails, in any kind of number
 abbrev pub Refuses : List Node → ℕ → Fault → Type 0
-Refuses ns room e =
-    (weights : List ℤ) → length weights ≡ room
-    → (◌≡◌ {A = Outcome ℕ ℤ} (record { answer = Err e; memory = weights }) (derive wholes ns weights))
-    × (◌≡◌ {A = Outcome ℕ ℤ} (record { answer = Err e; memory = weights }) (derive parities ns weights))
+Refuses ns room e = tested_first ns room ≡ Err e
 
 -- the answer of an elimination whose sizes fit: a row past the limit is named by its belt
 abbrev pub by_belt : Result ℕ EliminationError → Result ℕ Fault

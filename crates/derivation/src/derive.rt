@@ -1,14 +1,18 @@
-ghost use Rattle.std.specs.Prelude.{◌≡◌, ◌*◌, ◌≤◌, length, IfOk, count_by, MatchResult, nat_lt};
+ghost use Rattle.std.specs.Prelude.{◌≡◌, ℤ, ◌*◌, ◌≤◌, length, IfOk, count_by, MatchResult, nat_lt};
 ghost use Rattle.sheet.specs.Nodes.{is_belt};
 ghost use Rattle.sheet.specs.Views.{nodes_in};
-ghost use Rattle.kinds.specs.Kinds.{wholes, parities};
+ghost use Rattle.kinds.specs.Kinds.{Kind, wholes, parities};
+ghost use Rattle.elimination.specs.Answers.{solved};
 ghost use Rattle.elimination.specs.Memory.{rows_of};
+ghost use Rattle.flows.proofs.Complete.{CountsZero};
+ghost use Rattle.flows.proofs.Derived.{wholes_count, parities_count};
 ghost use Rattle.flows.specs.Derivation.{derive};
 ghost use Rattle.flows.specs.Completeness.{Zero, Even, Complete, gain};
 ghost use Rattle.derivation.specs.Tables.{Tabulated, Refuses, by_belt, Rowed};
 
 use crate::table::Table;
 use elimination::{EliminationError, eliminate_parity, eliminate_whole};
+use kinds::{Parity, Whole};
 use sheet::fault::{Fault, Refusal};
 use sheet::sheet::Sheet;
 
@@ -25,10 +29,7 @@ fn tabulate(sheet: &Sheet, room: usize) -> Result<Table, Fault>
     ensures { MatchResult result (Tabulated (nodes_in sheet.now) room) (Refuses (nodes_in sheet.now) room) }
 {
     if is_short(room, sheet.belts()) {
-        return Err(Fault {
-            refusal: Refusal::ShortWeights,
-            place: 0,
-        });
+        return Err(Refusal::ShortWeights.into());
     }
     Table::of(sheet)
 }
@@ -40,33 +41,80 @@ fn by_belt(answer: Result<usize, EliminationError>) -> Result<usize, Fault>
 {
     match answer {
         Ok(balances) => Ok(balances),
-        Err(EliminationError::LargeNumber(belt)) => Err(Fault {
-            refusal: Refusal::LargeNumber,
-            place: belt as u16,
-        }),
-        Err(EliminationError::Sizes) => Err(Fault {
-            refusal: Refusal::LargeNumber,
-            place: 0,
-        }),
+        Err(EliminationError::LargeNumber(belt)) => Err(Refusal::LargeNumber.at(belt as u16)),
+        Err(EliminationError::Sizes) => Err(Refusal::LargeNumber.into()),
     }
 }
 
-// The balances of the table's rows in whole numbers, written.
-fn solve_whole(sheet: &Sheet, table: &Table, weights: &mut [i32]) -> Result<usize, Fault>
-    requires { Tabulated (nodes_in sheet.now) (length weights.old) table.now }
-    ensures exact { record { answer = result; memory = weights.new } ≡ derive wholes (nodes_in sheet.now) weights.old }
-    ensures complete { IfOk result (λ k. Complete Zero (count_by is_belt (nodes_in sheet.now)) (gain (nodes_in sheet.now)) (rows_of k (count_by is_belt (nodes_in sheet.now)) weights.new)) }
-{
-    by_belt(eliminate_whole(table.belts, table.columns, table.rows(), weights))
+// A kind of number that balances are derived in.
+trait Derives {
+    ghost kind: { Kind };
+
+    // What counts as zero.
+    ghost nothing: { ℤ → Type 0 };
+
+    ghost counts: { CountsZero kind nothing };
+
+    // The elimination of the first `belts` rows of `columns` whole coefficients each.
+    fn eliminate(
+        belts: usize,
+        columns: usize,
+        rows: &[i64],
+        weights: &mut [i32],
+    ) -> Result<usize, EliminationError>
+        ensures { (result, weights.new) ≡ solved kind belts columns rows.now weights.old };
 }
 
-// The same in parities.
-fn solve_parity(sheet: &Sheet, table: &Table, weights: &mut [i32]) -> Result<usize, Fault>
+impl Derives for Whole {
+    ghost kind = { wholes };
+
+    ghost nothing = { Zero };
+
+    ghost counts = { wholes_count };
+
+    fn eliminate(
+        belts: usize,
+        columns: usize,
+        rows: &[i64],
+        weights: &mut [i32],
+    ) -> Result<usize, EliminationError> {
+        eliminate_whole(belts, columns, rows, weights)
+    }
+}
+
+impl Derives for Parity {
+    ghost kind = { parities };
+
+    ghost nothing = { Even };
+
+    ghost counts = { parities_count };
+
+    fn eliminate(
+        belts: usize,
+        columns: usize,
+        rows: &[i64],
+        weights: &mut [i32],
+    ) -> Result<usize, EliminationError> {
+        eliminate_parity(belts, columns, rows, weights)
+    }
+}
+
+// The balances of the table's rows, written.
+fn solve<K: Derives>(sheet: &Sheet, table: &Table, weights: &mut [i32]) -> Result<usize, Fault>
     requires { Tabulated (nodes_in sheet.now) (length weights.old) table.now }
-    ensures exact { record { answer = result; memory = weights.new } ≡ derive parities (nodes_in sheet.now) weights.old }
-    ensures complete { IfOk result (λ k. Complete Even (count_by is_belt (nodes_in sheet.now)) (gain (nodes_in sheet.now)) (rows_of k (count_by is_belt (nodes_in sheet.now)) weights.new)) }
+    ensures exact { record { answer = result; memory = weights.new } ≡ derive K.kind (nodes_in sheet.now) weights.old }
+    ensures complete { IfOk result (λ k. Complete K.nothing (count_by is_belt (nodes_in sheet.now)) (gain (nodes_in sheet.now)) (rows_of k (count_by is_belt (nodes_in sheet.now)) weights.new)) }
 {
-    by_belt(eliminate_parity(table.belts, table.columns, table.rows(), weights))
+    by_belt(K::eliminate(table.belts, table.columns, table.rows(), weights))
+}
+
+// The balances of a sheet's belts in a kind of number, written.
+fn derive<K: Derives>(sheet: &Sheet, weights: &mut [i32]) -> Result<usize, Fault>
+    ensures exact { record { answer = result; memory = weights.new } ≡ derive K.kind (nodes_in sheet.now) weights.old }
+    ensures complete { IfOk result (λ k. Complete K.nothing (count_by is_belt (nodes_in sheet.now)) (gain (nodes_in sheet.now)) (rows_of k (count_by is_belt (nodes_in sheet.now)) weights.new)) }
+{
+    let table = tabulate(sheet, weights.len())?;
+    solve::<K>(sheet, &table, weights)
 }
 
 // Derives the balances of a sheet's belts in whole numbers: writes their weights, belt by belt, one balance after another,
@@ -75,8 +123,7 @@ pub fn derive_whole(sheet: &Sheet, weights: &mut [i32]) -> Result<usize, Fault>
     ensures exact { record { answer = result; memory = weights.new } ≡ derive wholes (nodes_in sheet.now) weights.old }
     ensures complete { IfOk result (λ k. Complete Zero (count_by is_belt (nodes_in sheet.now)) (gain (nodes_in sheet.now)) (rows_of k (count_by is_belt (nodes_in sheet.now)) weights.new)) }
 {
-    let table = tabulate(sheet, weights.len())?;
-    solve_whole(sheet, &table, weights)
+    derive::<Whole>(sheet, weights)
 }
 
 // The same in parities: 1 is written for an odd weight, 0 for an even one.
@@ -84,6 +131,5 @@ pub fn derive_parity(sheet: &Sheet, weights: &mut [i32]) -> Result<usize, Fault>
     ensures exact { record { answer = result; memory = weights.new } ≡ derive parities (nodes_in sheet.now) weights.old }
     ensures complete { IfOk result (λ k. Complete Even (count_by is_belt (nodes_in sheet.now)) (gain (nodes_in sheet.now)) (rows_of k (count_by is_belt (nodes_in sheet.now)) weights.new)) }
 {
-    let table = tabulate(sheet, weights.len())?;
-    solve_parity(sheet, &table, weights)
+    derive::<Parity>(sheet, weights)
 }

@@ -3,7 +3,7 @@ ghost use Rattle.std.specs.Prelude.{◌≡◌, ◌≤◌, length, slice_index_or
 ghost use Rattle.sheet.specs.Nodes.{belts_of};
 ghost use Rattle.sheet.specs.Parts.{is_part};
 ghost use Rattle.flows.specs.Flows.{line_where, ports_of};
-ghost use Rattle.derivation.specs.Ports.{ports_in};
+ghost use Rattle.derivation.specs.Ports.{ports_in, offer_and_take};
 
 use sheet::node::Node;
 use sheet::parts::{Part, find_part};
@@ -17,20 +17,25 @@ pub(crate) struct Ports {
     pub(crate) item: u16,
 }
 
-// The offer and the take wire of belt `b`.
+// The offer and the take wire of a b line.
+fn offer_and_take(node: Node) -> Option<(u16, u16)>
+    ensures { result ≡ offer_and_take node }
+{
+    match node {
+        Node::Belt { offer, take } => Some((offer, take)),
+        _ => None,
+    }
+}
+
+// The offer and the take wire of belt `b`; wire 0 past the last belt.
 fn belt_wires(nodes: &[Node], b: usize) -> (u16, u16)
     ensures { result ≡ slice_index_or (belts_of nodes.now) b (0, 0) }
 {
-    let mut left = b;
-    for node in nodes {
-        if let Node::Belt { offer, take } = *node {
-            if left == 0 {
-                return (offer, take);
-            }
-            left -= 1;
-        }
-    }
-    (0, 0)
+    nodes
+        .iter()
+        .filter_map(|node| offer_and_take(*node))
+        .nth(b)
+        .unwrap_or((0, 0))
 }
 
 // The line that is a part of belt `b`.

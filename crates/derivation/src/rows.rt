@@ -1,14 +1,15 @@
 // Rows of coefficients: one for each flow, a number for each column.
-ghost use Rattle.std.specs.Prelude.{◌≡◌, ◌+◌, ◌*◌, ◌<◌, ◌≤◌, ◌++◌, length, take, drop};
+ghost use Rattle.std.specs.Prelude.{◌≡◌, ◌+◌, ◌*◌, ◌<◌, ◌≤◌, ◌++◌, length, take, drop, count_by};
+ghost use Rattle.sheet.specs.Nodes.{is_belt};
+ghost use Rattle.sheet.specs.Views.{nodes_in};
 ghost use Rattle.terms.specs.Sets.{number_of};
 ghost use Rattle.terms.specs.Records.{form_in};
 ghost use Rattle.forms.specs.Slots.{forms_in};
 ghost use Rattle.flows.specs.Columns.{merged};
 ghost use Rattle.derivation.specs.Memory.{columns_in, leading, after, flows_by, rows_over};
 
-use crate::flow::flow;
-use forms::Forms;
-use sheet::node::Node;
+use crate::flow::{Work, Worked};
+use crate::table::Numbers;
 use terms::Term;
 use terms::sets::number;
 
@@ -30,30 +31,22 @@ fn fill_row(columns: &[Term], flow: &[Term], numbers: &mut [i64], at: usize)
     ensures { take (at + length columns.now) numbers.new ≡ take at numbers.old ++ merged (columns_in columns.now) (form_in flow.now) }
 {
     let mut done = 0;
-    for j in 0..columns.len() {
-        let (coefficient, next) = next_coefficient(flow, done, &columns[j]);
+    for (j, column) in columns.iter().enumerate() {
+        let (coefficient, next) = next_coefficient(flow, done, column);
         numbers[at + j] = coefficient;
         done = next;
     }
 }
 
-// Writes the rows of the first belts, one after another.
-pub(crate) fn fill_rows(
-    nodes: &[Node],
-    forms: &Forms,
-    belts: usize,
-    columns: &[Term],
-    numbers: &mut [i64],
-    work: &mut [Term],
-)
-    requires lines { length nodes.now ≤ 640 }
-    requires room { 1200 ≤ length work.old }
-    requires few { (belts ≤ 32) × (length columns.now ≤ 256) }
-    requires place { 8192 ≤ length numbers.old }
-    ensures { take (belts * length columns.now) numbers.new ≡ rows_over (columns_in columns.now) (flows_by nodes.now (forms_in forms.now) belts) }
-{
-    for b in 0..belts {
-        let n = flow(nodes, forms, b, work);
-        fill_row(columns, &work[0..n], numbers, b * columns.len());
+impl Worked<'_> {
+    // Writes the rows of all belts' flows, one after another.
+    pub(crate) fn fill_rows(&self, columns: &[Term], numbers: &mut Numbers, work: &mut Work)
+        requires { length columns.now ≤ 256 }
+        ensures { take (count_by is_belt (nodes_in self.now.sheet.now) * length columns.now) numbers.new ≡ rows_over (columns_in columns.now) (flows_by (nodes_in self.now.sheet.now) (forms_in self.now.forms.now) (count_by is_belt (nodes_in self.now.sheet.now))) }
+    {
+        for b in 0..self.sheet.belts() {
+            let n = self.flow(b, work);
+            fill_row(columns, &work[0..n], numbers, b * columns.len());
+        }
     }
 }

@@ -1,8 +1,8 @@
 -- The steps of the loops over one row.
-use Rattle.std.proofs.Common.{◌≡◌, ℕ, zero, suc, ◌+◌, ◌-◌, ◌<◌, ◌≤◌, Bool, true, false, cond, ◌||◌, List, [], ◌∷◌, ◌++◌, map, length, get_or, take, drop, set, replicate, sym, refl, ap, ◌∙◌, ap₂, true≢false, arith}
-use Rattle.std.proofs.lemmas.List.{append_assoc, take_more_set, drop_more, drop-set-lt, drop-drop, take_all, map_push, map_more, map-set, length-map, length-take-le, set_at}
+use Rattle.std.proofs.Common.{◌≡◌, ℕ, zero, suc, ◌+◌, ◌-◌, ◌<◌, Bool, true, false, cond, ◌||◌, List, [], ◌∷◌, ◌++◌, map, length, get_or, take, drop, set, replicate, sym, refl, ap, ◌∙◌, ap₂, true≢false, arith}
+use Rattle.std.proofs.lemmas.List.{length-append, append_assoc, take_more_set, drop_more, drop-set-lt, drop-drop, map_push, map_more, map-set, length-map, length-take-le, set_at}
 use Rattle.kinds.specs.Kinds.{Kind}
-use Rattle.kinds.specs.Elimination.{less, divisor_from, any_past, leads_below, unit}
+use Rattle.kinds.specs.Elimination.{less, any_past, leads_below, unit}
 
 module _ (K : Kind) (a c : K.Num) where
   less_push : (xs ys : List K.Num) (x y : K.Num) → length xs ≡ length ys → less K a (xs ++ x ∷ []) c (ys ++ y ∷ []) ≡ less K a xs c ys ++ K.add (K.mul a x) (K.neg (K.mul c y)) ∷ []
@@ -21,36 +21,12 @@ module _ (K : Kind) (a c : K.Num) where
       cc
 
 module _ (K : Kind) {W : Type 0} (wide : W → K.Num) where
-  pub divisor_more : (s : K.Num) (row : List W) (i : ℕ) (x : W) → i < length row → x ≡ get_or row i x → divisor_from K s (map wide (drop i row)) ≡ divisor_from K (K.divisor s (wide x)) (map wide (drop (i + 1) row))
-  divisor_more s row i x lr ex =
-      ap (λ zs. divisor_from K s (map wide zs)) (drop_more row i x lr) ∙ ap (λ y. divisor_from K (K.divisor s (wide y)) (map wide (drop (i + 1) row))) (sym ex)
-
-  pub past_more : (row : List W) (i : ℕ) (x : W) (b : Bool) → i < length row → x ≡ get_or row i x → K.past (wide x) ≡ b → any_past K (map wide (drop i row)) ≡ b || any_past K (map wide (drop (i + 1) row))
-  past_more row i x b lr ex eb =
-      ap (λ zs. any_past K (map wide zs)) (drop_more row i x lr) ∙ ap (λ y. K.past (wide y) || any_past K (map wide (drop (i + 1) row))) (sym ex) ∙ ap (λ v. v || any_past K (map wide (drop (i + 1) row))) eb
-
   pub below_more : (n : ℕ) (row : List W) (i : ℕ) (x : W) (b : Bool) → i < n → i < length row → x ≡ get_or row i x → K.is_zero (wide x) ≡ b → leads_below K (n - i) (map wide (drop i row)) ≡ cond b (leads_below K (n - (i + 1)) (map wide (drop (i + 1) row))) (K.below (wide x))
   below_more n row i x b l lr ex eb =
       let e : n - i ≡ suc (n - (i + 1)) = omega arith in
       ap₂ (λ k zs. leads_below K k (map wide zs)) e (drop_more row i x lr)
       ∙ ap (λ y. cond (K.is_zero (wide y)) (leads_below K (n - (i + 1)) (map wide (drop (i + 1) row))) (K.below (wide y))) (sym ex)
       ∙ ap (λ v. cond v (leads_below K (n - (i + 1)) (map wide (drop (i + 1) row))) (K.below (wide x))) eb
-
--- one more is stored, with the meaning of what it comes from
-pub stored_more : {T W N : Type 0} (value : T → N) (wide : W → N) (row : List T) (from : List W) (i : ℕ) (w : W) (x : T) → i < length row → i < length from → w ≡ get_or from i w → value x ≡ wide w → map value (take i row) ≡ map wide (take i from) → map value (take (i + 1) (set row i x)) ≡ map wide (take (i + 1) from)
-stored_more value wide row from i w x lr lf ew ev inv =
-    let a = ap (map value) (take_more_set row i x lr) ∙ map_push value (take i row) x in
-    let b = map_more wide from i w lf in
-    cc
-
--- the same behind n places
-pub behind_more : {T W N : Type 0} (value : T → N) (wide : W → N) (front : List N) (row : List T) (from : List W) (n i : ℕ) (w : W) (x : T) → n + i < length row → i < length from → w ≡ get_or from i w → value x ≡ wide w → map value (take (n + i) row) ≡ front ++ map wide (take i from) → map value (take (n + (i + 1)) (set row (n + i) x)) ≡ front ++ map wide (take (i + 1) from)
-behind_more value wide front row from n i w x lr lf ew ev inv =
-    let e : n + (i + 1) ≡ n + i + 1 = omega arith in
-    let a = ap (λ k. map value (take k (set row (n + i) x))) e ∙ ap (map value) (take_more_set row (n + i) x lr) ∙ map_push value (take (n + i) row) x in
-    let b = map_more wide from i w lf in
-    let d = append_assoc front (map wide (take i from)) (wide w ∷ []) in
-    cc
 
 -- a loop that writes over each element x one that means h of what x means
 module _ {W N : Type 0} (f : W → N) (h : N → N) where
@@ -66,13 +42,6 @@ module _ {W N : Type 0} (f : W → N) (h : N → N) where
       let s = ap (λ zs. get_or zs 0 x) (sym (drop_more row i x lr) ∙ inv.1 ∙ drop_more start i x l) in
       let p = inv.0 in
       (cc, drop-set-lt (i + 1) row i w (omega arith) ∙ sym (drop-drop 1 i row) ∙ ap (drop 1) inv.1 ∙ drop-drop 1 i start)
-
-  pub mapped_all : (start row : List W) (i : ℕ) → length row ≤ i → length row ≡ length start → Mapped start row i → map f row ≡ map h (map f start)
-  mapped_all start row i l e inv =
-      let a = take_all i row l in
-      let b = take_all i start (omega arith) in
-      let p = inv.0 in
-      cc
 
 -- ---- the weights of a starting row
 take_set_in : {X : Type 0} (n : ℕ) (xs : List X) (i : ℕ) (x : X) → take n (set xs i x) ≡ set (take n xs) i x
@@ -102,11 +71,17 @@ pub past_behind : (K : Kind) {T : Type 0} (value : T → K.Num) → ((x : T) →
 past_behind K value h row front ys e = past_append K front ys (ap (any_past K) (sym e) ∙ past_none K value h row)
 
 -- one more number is written
-pub written_more : {T N Z : Type 0} (h : N → Z) (f : T → N) (xs : List T) (old ws : List Z) (i : ℕ) (x : T) (v : Z) → i < length xs → i < length old → x ≡ get_or xs i x → v ≡ h (f x) → ws ≡ map h (map f (take i xs)) ++ drop i old → set ws i v ≡ map h (map f (take (i + 1) xs)) ++ drop (i + 1) old
-written_more h f xs old ws i x v lx lo ex ev inv =
-    let front = map h (map f (take i xs)) in
-    let n : length front ≡ i = length-map (map f (take i xs)) h ∙ length-map (take i xs) f ∙ length-take-le i xs (omega arith) in
-    let a = ap (map h) (map_more f xs i x lx) ∙ map_push h (map f (take i xs)) (f (get_or xs i x)) in
-    let y = ev ∙ ap (λ z. h (f z)) ex in
-    ap (λ zs. set zs i v) (inv ∙ ap (λ zs. front ++ zs) (drop_more old i v lo)) ∙ set_at front (get_or old i v) (drop (i + 1) old) v i n
-    ∙ sym (append_assoc front (v ∷ []) (drop (i + 1) old)) ∙ ap (λ z. (front ++ z ∷ []) ++ drop (i + 1) old) y ∙ ap (λ zs. zs ++ drop (i + 1) old) (sym a)
+pub written_more : {T N Z : Type 0} (h : N → Z) (f : T → N) (xs : List T) (old ws : List Z) (at i : ℕ) (x : T) (v : Z) → i < length xs → at + i < length old → x ≡ get_or xs i x → v ≡ h (f x) → ws ≡ take at old ++ (map h (map f (take i xs)) ++ drop (at + i) old)
+    → set ws (at + i) v ≡ take at old ++ (map h (map f (take (i + 1) xs)) ++ drop (at + (i + 1)) old)
+written_more h f xs old ws at i x v lx lo ex ev inv =
+    let part = map h (map f (take i xs)) in
+    let front = take at old ++ part in
+    let p : length part ≡ i = length-map (map f (take i xs)) h ∙ length-map (take i xs) f ∙ length-take-le i xs (omega arith) in
+    let n : length front ≡ at + i = length-append (take at old) part ∙ ap₂ (λ a b. a + b) (length-take-le at old (omega arith)) p in
+    let s : at + i + 1 ≡ at + (i + 1) = omega arith in
+    let w : ws ≡ front ++ (get_or old (at + i) v ∷ drop (at + i + 1) old) = inv ∙ sym (append_assoc (take at old) part (drop (at + i) old)) ∙ ap (λ zs. front ++ zs) (drop_more old (at + i) v lo) in
+    let a : map h (map f (take (i + 1) xs)) ≡ part ++ v ∷ [] =
+    ap (map h) (map_more f xs i x lx) ∙ map_push h (map f (take i xs)) (f (get_or xs i x)) ∙ ap (λ z. part ++ z ∷ []) (sym (ev ∙ ap (λ z. h (f z)) ex)) in
+    ap (λ zs. set zs (at + i) v) w ∙ set_at front (get_or old (at + i) v) (drop (at + i + 1) old) v (at + i) n
+    ∙ append_assoc (take at old) part (v ∷ drop (at + i + 1) old)
+    ∙ ap (λ zs. take at old ++ zs) (sym (append_assoc part (v ∷ []) (drop (at + i + 1) old)) ∙ ap₂ (λ y k. y ++ drop k old) (sym a) s)

@@ -1,11 +1,14 @@
 -- One more kept row, or one more balance, at the end of its memory.
-use Rattle.std.proofs.Common.{◌≡◌, ℕ, zero, suc, ◌+◌, ◌-◌, ◌*◌, ◌<◌, ◌≤◌, List, [], ◌∷◌, ◌++◌, map, length, take, drop, set, Some, sym, refl, ap, ◌∙◌, ap₂, suc-mul, zero-mul, add-one, arith}
-use Rattle.std.proofs.lemmas.List.{take_at, take-append-le, drop-append-le, take-append-drop, take_more_set, length-drop, length-take-le, length-map, map-append, take-map, nil_from_length}
-use Rattle.kinds.specs.Kinds.{Kind}
+use Rattle.std.proofs.Common.{◌≡◌, ℕ, zero, suc, ◌+◌, ◌*◌, ◌<◌, ◌≤◌, List, [], ◌∷◌, ◌++◌, map, length, take, drop, set, ℤ, Some, None, sym, refl, ap, ◌∙◌, ap₂, suc-mul, zero-mul, add-one, mul-le-mul, arith}
+use Rattle.std.proofs.lemmas.List.{take_at, take-append-le, drop-append-le, take-append-drop, take_more_set, length-drop, length-take-le, length-map, map-append, nil_from_length, append_assoc, length-append}
+use Rattle.kinds.specs.Kinds.{Kind, Lawful}
 use Rattle.kinds.specs.Elimination.{State, added}
 use Rattle.elimination.specs.Memory.{rows_of, kept_of, state_of, told}
-use Rattle.elimination.specs.declared.reduce.End.{End}
-use Rattle.elimination.specs.declared.reduce.End.TheVariants.{Lead, Balance}
+
+-- a number that is written counts as itself
+pub counts_back : {K : Kind} (L : Lawful K) (w : List K.Num) → map K.counts (map K.writes w) ≡ w
+counts_back L [] = refl
+counts_back L (x ∷ w) = ap₂ (λ y v. y ∷ v) (L.counts_written x) (counts_back L w)
 
 module _ {A : Type 0} (size : ℕ) where
   -- what lies behind the rows does not count
@@ -85,22 +88,35 @@ module _ {N T : Type 0} (value : T → N) (size k : ℕ) (rows row : List T) (n 
       ∙ ap (λ zs. zs ++ map value row ∷ []) (sym (ap (rows_of k size) split ∙ rows_front size k front (map value (drop (k * size) rows)) front_length))
 
 -- ---- the state in memory, one row later
-module _ (K : Kind) {T : Type 0} (value : T → K.Num) (n used found : ℕ) (leads : List ℕ) (rows balances row new : List T) (end : End) where
+module _ (K : Kind) {T : Type 0} (value : T → K.Num) (n used found : ℕ) (leads : List ℕ) (rows row : List T) (balances : List K.Num) where
   abbrev state : State K.Num
-  state = state_of n (length row) used found leads (map value rows) (map value balances)
+  state = state_of n (length row) used found leads (map value rows) balances
 
-  pub added_lead : (j : ℕ) → end ≡ Lead j → used < length leads → used * length row + length row ≤ length rows → Written value (length row) used rows row refl new
-      → added K n state (told K end (map value row)) ≡ Some (state_of n (length row) (used + 1 + found - found) found (set leads used j) (map value new) (map value balances))
-  added_lead j e l room w =
-      let u : used + 1 + found - found ≡ used + 1 = omega arith in
-      ap (λ x. added K n state (told K x (map value row))) e
-      ∙ ap (λ ks. Some (record { rows = ks; balances = rows_of found n (map value balances) }))
-      (sym (kept_more value (length row) used rows row refl room leads j new l w) ∙ ap (λ k. kept_of (length row) (take k (set leads used j)) (map value new)) (sym u))
+  pub added_lead : (j : ℕ) (new : List T) → used < length leads → used * length row + length row ≤ length rows → Written value (length row) used rows row refl new
+      → added K n state (told K (Some j) (map value row)) ≡ Some (state_of n (length row) (used + 1) found (set leads used j) (map value new) balances)
+  added_lead j new l room w =
+      ap (λ ks. Some (record { rows = ks; balances = rows_of found n balances })) (sym (kept_more value (length row) used rows row refl room leads j new l w))
 
-  pub added_balance : end ≡ Balance → n ≤ length row → found * n + n ≤ length balances → new ≡ take (found * n) balances ++ (take n row ++ drop (found * n + length (take n row)) balances)
-      → added K n state (told K end (map value row)) ≡ Some (state_of n (length row) (used + 1 + found - (found + 1)) (found + 1) leads (map value rows) (map value new))
-  added_balance e l room w =
-      let u : used + 1 + found - (found + 1) ≡ used = omega arith in
-      ap (λ x. added K n state (told K x (map value row))) e
-      ∙ ap₂ (λ ks ws. Some (record { rows = ks; balances = ws })) (ap (λ k. kept_of (length row) (take k leads) (map value rows)) (sym u))
-      (ap (λ w. rows_of found n (map value balances) ++ w ∷ []) (take-map value n row) ∙ sym (rows_more value n found balances (take n row) (length-take-le n row l) room new w))
+-- there is room for the weights of one balance more
+pub room_for_weights : (found n : ℕ) → found < 32 → n ≤ 32 → found * n + n ≤ 1024
+room_for_weights found n p q = let h : suc found * n ≤ 32 * 32 = mul-le-mul p q in omega (arith, suc-mul found n)
+
+-- the weights of a balance, as they are written, behind the others
+module _ {K : Kind} (L : Lawful K) (n found : ℕ) (weights new row : List ℤ) (cells : List K.Num) where
+  pub added_balance : (size used : ℕ) (leads : List ℕ) (rows : List K.Num) → row ≡ map K.writes (take n cells) → length row ≡ n → found * n + n ≤ length weights → new ≡ take (found * n) weights ++ (row ++ drop (found * n + length row) weights)
+      → added K n (state_of n size used found leads rows (map K.counts weights)) (told K None cells) ≡ Some (state_of n size used (found + 1) leads rows (map K.counts new))
+  added_balance size used leads rows er n' room w =
+      ap (λ ws. Some (record { rows = kept_of size (take used leads) rows; balances = ws }))
+      (ap (λ w. rows_of found n (map K.counts weights) ++ w ∷ []) (sym (ap (map K.counts) er ∙ counts_back L (take n cells))) ∙ sym (rows_more K.counts n found weights row n' room new w))
+
+  pub still_written : row ≡ map K.writes (take n cells) → length row ≡ n → found * n + n ≤ length weights → new ≡ take (found * n) weights ++ (row ++ drop (found * n + length row) weights)
+      → map K.writes (map K.counts (take (found * n) weights)) ≡ take (found * n) weights → map K.writes (map K.counts (take ((found + 1) * n) new)) ≡ take ((found + 1) * n) new
+  still_written er n' room w old =
+      let front = take (found * n) weights in
+      let tail = drop (found * n + length row) weights in
+      let z : (found + 1) * n ≡ found * n + n = ap (λ k. k * n) (add-one found) ∙ omega (arith, suc-mul found n) in
+      let lf : length front ≡ found * n = length-take-le (found * n) weights (omega arith) in
+      let t : take ((found + 1) * n) new ≡ front ++ row =
+      ap₂ take z (w ∙ sym (append_assoc front row tail)) ∙ take_at (front ++ row) tail (found * n + n) (length-append front row ∙ ap₂ (λ x y. x + y) lf n') in
+      let h : map K.writes (map K.counts row) ≡ row = ap (λ x. map K.writes (map K.counts x)) er ∙ ap (map K.writes) (counts_back L (take n cells)) ∙ sym er in
+      ap (λ x. map K.writes (map K.counts x)) t ∙ ap (map K.writes) (map-append K.counts front row) ∙ map-append K.writes (map K.counts front) (map K.counts row) ∙ ap₂ (λ x y. x ++ y) old h ∙ sym t

@@ -9,6 +9,7 @@ use Rattle.kinds.specs.Completeness.{Vanishes, Made}
 use Rattle.kinds.proofs.Arrival.{sound, exactly, shaped}
 use Rattle.elimination.specs.Memory.{rows_of}
 use Rattle.elimination.specs.Answers.{sizes_fit, balances_of, answered, solved, Exact}
+use Rattle.elimination.proofs.Keeping.{counts_back}
 use Rattle.elimination.proofs.Written.{Fit, fits, length_rows}
 use Rattle.elimination.specs.declared.solve.EliminationError.{EliminationError}
 use Rattle.elimination.specs.declared.solve.EliminationError.TheVariants.{Sizes}
@@ -20,16 +21,12 @@ rows_long m (suc k) xs h =
     (length-take-le m xs (omega arith), rows_long m k (drop m xs) (omega (arith, length-drop m xs)))
 
 module _ {K : Kind} (L : Lawful K) (n : ℕ) where
-  back : (w : List K.Num) → map K.counts (map K.writes w) ≡ w
-  back [] = refl
-  back (x ∷ w) = ap₂ (λ y v. y ∷ v) (L.counts_written x) (back w)
-
   rows_back : (P : List K.Num → Type 0) (ws : List (List K.Num)) (rest : List ℤ) → AllByRecursion (λ w. (length w ≡ n) × P w) ws → rows_of (length ws) n (map K.counts (flat_map (map K.writes) ws ++ rest)) ≡ ws
   rows_back P [] rest h = refl
   rows_back P (w ∷ ws) rest h =
       let new = flat_map (map K.writes) ws in
       let e : map K.counts ((map K.writes w ++ new) ++ rest) ≡ w ++ map K.counts (new ++ rest) =
-      ap (map K.counts) (append_assoc (map K.writes w) new rest) ∙ map-append K.counts (map K.writes w) (new ++ rest) ∙ ap (λ v. v ++ map K.counts (new ++ rest)) (back w) in
+      ap (map K.counts) (append_assoc (map K.writes w) new rest) ∙ map-append K.counts (map K.writes w) (new ++ rest) ∙ ap (λ v. v ++ map K.counts (new ++ rest)) (counts_back L w) in
       ap (rows_of (suc (length ws)) n) e
       ∙ ap₂ (λ x y. x ∷ rows_of (length ws) n y) (take_at w (map K.counts (new ++ rest)) n h.0.0) (drop_at w (map K.counts (new ++ rest)) n h.0.0)
       ∙ ap (λ v. w ∷ v) (rows_back P ws rest h.1)

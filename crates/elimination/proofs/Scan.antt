@@ -1,18 +1,16 @@
 -- One row against kept rows: what a step leaves, and the loop over the columns.
-use Rattle.std.proofs.Common.{◌≡◌, ℕ, zero, suc, ◌+◌, ◌-◌, ◌*◌, ◌<◌, ◌≤◌, Bool, true, false, cond, not, eqb, List, [], ◌∷◌, map, length, get_or, take, drop, Some, None, sym, refl, ap, ◌∙◌, mul-le-mul_right, suc-mul, zero-mul, arith, eq-eqb, ne_eqb}
+use Rattle.std.proofs.Common.{◌≡◌, ℕ, zero, suc, ◌+◌, ◌-◌, ◌*◌, ◌<◌, ◌≤◌, Bool, true, false, cond, eqb, List, [], ◌∷◌, map, length, get_or, take, drop, Some, None, sym, refl, ap, ◌∙◌, mul-le-mul_right, suc-mul, zero-mul, arith, eq-eqb, ne_eqb}
 use Rattle.std.proofs.lemmas.List.{drop-drop, get_or-map, take-map, drop-map}
 use Rattle.kinds.specs.Kinds.{Kind}
-use Rattle.kinds.specs.Elimination.{kept_under, or_else, at, less, divisor_from, over, stepped, any_past, leads_below, negated_if, Handled, kept, balance, passes, handled}
+use Rattle.kinds.specs.Elimination.{kept_under, or_else, at, stepped, any_past, leads_below, negated_if, Handled, kept, balance, passes, handled}
 use Rattle.elimination.specs.Memory.{kept_of}
 
 pub at_read : (K : Kind) {T : Type 0} (value : T → K.Num) (xs : List T) (t : ℕ) (x : T) → t < length xs → x ≡ get_or xs t x → value x ≡ at K (map value xs) t
 at_read K value xs t x lt e = ap value e ∙ sym (get_or-map value xs t x K.zero lt)
 
-pub stepped_is : (K : Kind) (row other s₁ s₂ : List K.Num) (x y u v c p d : K.Num) → x ≡ u → y ≡ v → c ≡ K.quotient x (K.divisor x y) → p ≡ K.quotient y (K.divisor x y) → s₁ ≡ less K p row c other → d ≡ divisor_from K K.zero s₁ → s₂ ≡ over K d s₁ → s₂ ≡ stepped K u v row other
-stepped_is K row other s₁ s₂ x y u v c p d ex ey ec ep e₁ ed e₂ =
-    let g : K.Num = K.divisor u v in
-    let f : s₁ ≡ less K (K.quotient v g) row (K.quotient u g) other = cc in
-    e₂ ∙ ap (λ z. over K d z) f ∙ ap (λ z. over K z (less K (K.quotient v g) row (K.quotient u g) other)) (ed ∙ ap (divisor_from K K.zero) f)
+-- a number in memory that is tested for zero
+pub tested : (K : Kind) {T : Type 0} (value : T → K.Num) (xs : List T) (t : ℕ) (x : T) (b : Bool) → t < length xs → x ≡ get_or xs t x → b ≡ K.is_zero (value x) → K.is_zero (at K (map value xs) t) ≡ b
+tested K value xs t x b lt e h = ap K.is_zero (sym (at_read K value xs t x lt e)) ∙ sym h
 
 module _ {A : Type 0} (size j : ℕ) where
   pub found_none : (ts : List ℕ) (rows : List A) → ((i : ℕ) → i < length ts → get_or ts i 0 ≡ j → ⊥) → kept_under (kept_of size ts rows) j ≡ None
@@ -32,14 +30,6 @@ module _ {A : Type 0} (size j : ℕ) where
       ∙ found_some ts (drop size rows) i (omega arith) e (λ k lt. h (suc k) (omega arith))
       ∙ ap (λ zs. Some (take size zs)) (drop-drop (i * size) size rows)
       ∙ ap (λ n. Some (take size (drop n rows))) (omega (arith, suc-mul i size))
-
-pub was_false : (b : Bool) → true ≡ not b → b ≡ false
-was_false true e = e
-was_false false e = refl
-
-pub was_true : (b : Bool) → false ≡ not b → b ≡ true
-was_true true e = refl
-was_true false e = e
 
 -- the kept row that the code reads is the one that is found
 pub row_found : {N T : Type 0} (value : T → N) (size j : ℕ) (ts : List ℕ) (rows other : List T) (r : ℕ) → (r < length ts) × (get_or ts r 0 ≡ j) × ((k : ℕ) → k < r → get_or ts k 0 ≡ j → ⊥) → other ≡ take size (drop (r * size) rows) → kept_under (kept_of size ts (map value rows)) j ≡ Some (map value other)

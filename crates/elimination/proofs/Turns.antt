@@ -3,7 +3,7 @@ use Rattle.std.proofs.Common.{◌≡◌, ℕ, zero, suc, ◌+◌, ◌-◌, ◌*�
 use Rattle.std.proofs.lemmas.List.{drop-drop, drop_all, take-map, drop-map}
 use Rattle.kinds.specs.Kinds.{Kind}
 use Rattle.kinds.specs.Elimination.{or_else, Handled, handled, any_past, State, added, eliminated, unit, starts, eliminate}
-use Rattle.elimination.specs.Memory.{rows_of, kept_of}
+use Rattle.elimination.specs.Memory.{rows_of, kept_of, state_of}
 use Rattle.elimination.specs.Answers.{balances_of}
 
 module _ (K : Kind) (n m : ℕ) where
@@ -64,7 +64,16 @@ module _ (K : Kind) (n m b : ℕ) (lt : b < n) (xs part : List ℤ) (ep : part �
   turns e h eh t f = let g : added K n s (handled K n s.rows m 0 r) ≡ Some t = ap (added K n s) (sym eh) ∙ f in opened ∙ simp (e, g)
 
 -- the row in memory, as long as the rows are, against the kept rows in memory
-pub same_handled : (K : Kind) (n m size : ℕ) → size ≡ n + m → {ts us : List ℕ} → ts ≡ us → (rows : List K.Num) {q r : List K.Num} → q ≡ r → handled K n (kept_of size ts rows) (size - n) 0 q ≡ handled K n (kept_of (n + m) us rows) m 0 r
+pub same_handled : (K : Kind) (n m size : ℕ) → size ≡ n + m → {ts us : List ℕ} → ts ≡ us → (rows : List K.Num) {q r : List K.Num} → q ≡ r → handled K n (kept_of (n + m) ts rows) (size - n) 0 q ≡ handled K n (kept_of (n + m) us rows) m 0 r
 same_handled K n m size e {ts} {us} et rows {q} {r} er =
-    let f : n + m - n ≡ m = omega arith in
-    ap (λ z. handled K n (kept_of z ts rows) (z - n) 0 q) e ∙ ap (λ k. handled K n (kept_of (n + m) ts rows) k 0 q) f ∙ ap₂ (λ x y. handled K n (kept_of (n + m) x rows) m 0 y) et er
+    let f : size - n ≡ m = omega arith in
+    ap (λ k. handled K n (kept_of (n + m) ts rows) k 0 q) f ∙ ap₂ (λ x y. handled K n (kept_of (n + m) x rows) m 0 y) et er
+
+-- nothing is filed at the start
+pub nothing_filed : {A : Type 0} (n size used found : ℕ) (leads : List ℕ) (rows balances : List A) → used ≡ 0 → found ≡ 0 → state_of n size used found leads rows balances ≡ record { rows = []; balances = [] }
+nothing_filed n size used found leads rows balances u f = ap₂ (λ x y. state_of n size x y leads rows balances) u f
+
+pub nothing_written : (K : Kind) (n found : ℕ) (weights : List ℤ) → found ≡ 0 → map K.writes (map K.counts (take (found * n) weights)) ≡ take (found * n) weights
+nothing_written K n found weights e =
+    let z : found * n ≡ 0 = ap (λ k. k * n) e ∙ zero-mul n in
+    ap (λ k. map K.writes (map K.counts (take k weights))) z ∙ sym (ap (λ k. take k weights) z)

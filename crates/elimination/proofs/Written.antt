@@ -1,7 +1,7 @@
 -- Balances in memory as they are written, and sizes that fit.
-use Rattle.std.proofs.Common.{◌≡◌, ℕ, zero, suc, ◌+◌, ◌-◌, ◌*◌, ◌≤◌, true, false, cond, ◌&&◌, eqb, leb, List, ◌++◌, map, length, take, drop, ℤ, Ok, Err, sym, refl, ap, ◌∙◌, ap₂, suc-mul, mul-le-mul, zero-mul, arith, take-add}
+use Rattle.std.proofs.Common.{◌≡◌, ℕ, zero, suc, ◌+◌, ◌*◌, ◌≤◌, true, false, cond, ◌&&◌, eqb, leb, List, ◌++◌, map, length, take, drop, ℤ, Ok, Err, sym, refl, ap, ◌∙◌, ap₂, suc-mul, mul-le-mul, mul-le-mul_right, zero-mul, arith, take-add}
 use Rattle.std.specs.List.{flat_map}
-use Rattle.std.proofs.lemmas.List.{length-map, length-take, length-take-le, map-append, take-map}
+use Rattle.std.proofs.lemmas.List.{length-take-le, map-append, take-map}
 use Rattle.std.proofs.lemmas.Bool.{and_parts, eqb-true, leb-true}
 use Rattle.kinds.specs.Kinds.{Kind}
 use Rattle.elimination.specs.Memory.{rows_of}
@@ -19,12 +19,16 @@ pub length_rows : {N : Type 0} (n k : ℕ) (xs : List N) → length (rows_of k n
 length_rows n zero xs = refl
 length_rows n (suc k) xs = ap suc (length_rows n k (drop n xs))
 
-pub answered_rows : (K : Kind) {T : Type 0} (value : T → K.Num) (n k : ℕ) (bs : List T) (old new : List ℤ) → k * n ≤ length bs → new ≡ map K.writes (map value (take (k * n) bs)) ++ drop (k * n) old → (Ok k, new) ≡ answered K old (Ok (rows_of k n (map value bs)))
-answered_rows K value n k bs old new l e =
-    let ws = rows_of k n (map value bs) in
-    let j : flat_map (map K.writes) ws ≡ map K.writes (map value (take (k * n) bs)) = joined_rows K.writes n k (map value bs) ∙ ap (map K.writes) (take-map value (k * n) bs) in
-    let z : length (map K.writes (map value (take (k * n) bs))) ≡ k * n = length-map (map value (take (k * n) bs)) K.writes ∙ length-map (take (k * n) bs) value ∙ length-take-le (k * n) bs l in
-    ap₂ (λ x y. (Ok x, y)) (sym (length_rows n k (map value bs))) (e ∙ ap₂ (λ xs x. xs ++ drop x old) (sym j) (sym z ∙ ap length (sym j)))
+pub answered_rows : (K : Kind) (n k : ℕ) (ws old new : List ℤ) → k * n ≤ length ws → map K.writes (map K.counts (take (k * n) ws)) ≡ take (k * n) ws → new ≡ take (k * n) ws ++ drop (k * n) old → (Ok k, new) ≡ answered K old (Ok (rows_of k n (map K.counts ws)))
+answered_rows K n k ws old new l h e =
+    let rows = rows_of k n (map K.counts ws) in
+    let j : flat_map (map K.writes) rows ≡ take (k * n) ws = joined_rows K.writes n k (map K.counts ws) ∙ ap (map K.writes) (take-map K.counts (k * n) ws) ∙ h in
+    let z : length (take (k * n) ws) ≡ k * n = length-take-le (k * n) ws l in
+    ap₂ (λ x y. (Ok x, y)) (sym (length_rows n k (map K.counts ws))) (e ∙ ap₂ (λ xs x. xs ++ drop x old) (sym j) (sym z ∙ ap length (sym j)))
+
+-- the same table under other names
+pub same_table : (K : Kind) {n n' m m' : ℕ} {xs xs' : List ℤ} → n' ≡ n → m' ≡ m → xs' ≡ xs → balances_of K n m xs ≡ balances_of K n' m' xs'
+same_table K {n} {n'} {m} {m'} {xs} {xs'} en em ex = sym (ap₂ (λ x y. balances_of K x y xs') en em ∙ ap (balances_of K n m) ex)
 
 module _ (K : Kind) (n m : ℕ) (xs weights : List ℤ) where
   pub solved_unfit : false ≡ sizes_fit n m (length xs) (length weights) → (Err Sizes, weights) ≡ solved K n m xs weights
@@ -49,12 +53,9 @@ fits n m c w e =
     let d = and_parts (leb n 32) (leb m 256) b.0 in
     record { few = leb-true n 32 d.0; narrow = leb-true m 256 d.1; full = eqb-true c (n * m) b.1; room = leb-true (n * n) w a.1 }
 
--- a part of the memory for one row is as long as a row
-pub part_length : {X : Type 0} (n m : ℕ) (xs : List X) → n + m ≤ length xs → length (take (n + m - 0) xs) ≡ n + m
-part_length n m xs h = simp length-take (omega arith)
+-- so many rows, and so many balances, have room
+pub all_rows : (rows size : ℕ) → rows ≤ 32 → size ≤ 288 → rows * size ≤ 9216
+all_rows rows size p q = mul-le-mul p q
 
-pub all_rows : (n m : ℕ) → n ≤ 32 → m ≤ 256 → n * (n + m) ≤ 9216
-all_rows n m p q = let s : n + m ≤ 288 = omega arith in mul-le-mul p s
-
-pub all_balances : (n : ℕ) → n ≤ 32 → n * n ≤ 1024
-all_balances n p = mul-le-mul p p
+pub all_balances : (k n : ℕ) → k ≤ n → n ≤ 32 → (k * n ≤ n * n) × (k * n ≤ 1024)
+all_balances k n l p = let h : k ≤ 32 = omega arith in (mul-le-mul_right n l, mul-le-mul h p)

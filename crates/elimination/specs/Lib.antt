@@ -1,2 +1,3 @@
 pub mod Memory
+pub mod States
 pub mod Answers

@@ -1,9 +1,7 @@
 -- How rows lie in memory, one after another, and what the code's answers about one row mean. Assumes nothing.
-use Rattle.std.specs.Prelude.{ℕ, zero, suc, ◌+◌, ◌<◌, Bool, false, List, [], ◌∷◌, take, drop}
+use Rattle.std.specs.Prelude.{ℕ, zero, suc, ◌+◌, Bool, List, [], ◌∷◌, take, drop, Option, Some, None}
 use Rattle.kinds.specs.Kinds.{Kind}
-use Rattle.kinds.specs.Elimination.{at, leads_below, Handled, kept, balance, passes, State}
-use Rattle.elimination.specs.declared.reduce.End.{End}
-use Rattle.elimination.specs.declared.reduce.End.TheVariants.{Lead, Balance, Refused}
+use Rattle.kinds.specs.Elimination.{at, leads_below, Handled, kept, balance, State}
 
 -- the first k rows of n numbers each
 abbrev pub rows_of : {A : Type 0} → ℕ → ℕ → List A → List (List A)
@@ -20,20 +18,12 @@ abbrev pub state_of : {A : Type 0} → (n size used found : ℕ) → List ℕ �
 state_of n size used found leads rows balances = record { rows = kept_of size (take used leads) rows; balances = rows_of found n balances }
 
 module _ (K : Kind) where
-  -- an answer about a row, and the row
-  abbrev pub told : End → List K.Num → Handled K.Num
-  told (Lead j) r = kept j r
-  told Balance r = balance r
-  told Refused r = passes
+  -- the column of a row's lowest term, absent for a balance, and the row
+  abbrev pub told : Option ℕ → List K.Num → Handled K.Num
+  told (Some j) r = kept j r
+  told None r = balance r
 
   -- whether a row of n weights that ends so is to be negated
-  abbrev pub ends_below : ℕ → End → List K.Num → Bool
-  ends_below n (Lead j) r = K.below (at K r (n + j))
-  ends_below n Balance r = leads_below K n r
-  ends_below n Refused r = false
-
--- a column that is named is one of m
-abbrev pub Inside : End → ℕ → Type 0
-Inside (Lead j) m = j < m
-Inside Balance m = Unit {0}
-Inside Refused m = Unit {0}
+  abbrev pub ends_below : ℕ → Option ℕ → List K.Num → Bool
+  ends_below n (Some j) r = K.below (at K r (n + j))
+  ends_below n None r = leads_below K n r

@@ -1,6 +1,7 @@
 // Elimination of rows of whole coefficients, over whole numbers and over parities.
 #![tactic(auto)]
 
+mod filed;
 mod reduce;
 mod rows;
 mod solve;

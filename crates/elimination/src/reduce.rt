@@ -1,42 +1,53 @@
 // One row against the rows that are kept.
-ghost use Rattle.std.specs.Prelude.{◌≡◌, ℕ, ◌+◌, ◌-◌, ◌*◌, ◌<◌, ◌≤◌, true, not, map, length, MatchOption, ◌≢◌, slice_index};
-ghost use Rattle.kinds.specs.Elimination.{at, stepped, any_past, negated_if, handled};
-ghost use Rattle.elimination.specs.Memory.{kept_of, told, ends_below, Inside};
+ghost use Rattle.std.specs.Prelude.{◌≡◌, ℕ, ◌+◌, ◌-◌, ◌*◌, ◌<◌, ◌≤◌, true, false, map, length, Some, None, IfSome, OnOk, OnErr, MatchOption, MatchResult, ◌≢◌, slice_index};
+ghost use Rattle.kinds.specs.Elimination.{at, stepped, any_past, negated_if, kept_under, handled, passes};
+ghost use Rattle.elimination.specs.Memory.{kept_of, told, ends_below};
 
 use crate::rows::{
-    combine_row, divide_row, leads_below, negate_when, row_at, row_divisor, store_row,
+    PastLimit, combine_row, divide_row, leads_below, negate_when, row_at, row_divisor, store_row,
 };
 use kinds::Number;
 
-#[derive(Clone, Copy)]
-pub(crate) enum End {
-    // its lowest term is in this column, and no kept row's is
-    Lead(usize),
-    // it has no terms
-    Balance,
-    // a number passed the limit
-    Refused,
+// The rows that are kept, of `size` numbers each, one after another, and the column of each one's lowest term.
+#[derive(Drop)]
+pub(crate) struct Kept<'a, T> {
+    pub(crate) size: usize,
+    pub(crate) leads: &'a [usize],
+    pub(crate) rows: &'a [T],
+    ghost whole: { length leads.now * size ≤ length rows.now },
 }
 
 // The first kept row whose lowest term is in column j.
-pub(crate) fn find_lead(leads: &[usize], j: usize) -> Option<usize>
+fn find_lead(leads: &[usize], j: usize) -> Option<usize>
     ensures { MatchOption result ((k : ℕ) → k < length leads.now → slice_index leads.now k ≢ j) (λ i. (i < length leads.now) × (slice_index leads.now i ≡ j) × ((k : ℕ) → k < i → slice_index leads.now k ≢ j)) }
 {
-    for (i, x) in leads.iter().enumerate() {
-        if *x == j {
-            return Some(i);
-        }
-    }
-    None
+    leads.iter().position(|lead| *lead == j)
 }
 
-// One step at place t: false where a number passes the limit.
-fn step<T: Number>(row: &mut [T], wide_row: &mut [T::Wide], other: &[T], t: usize) -> bool
+impl<'a, T: Number> Kept<'a, T> {
+    // The kept row whose lowest term is in column j.
+    fn led_by(&self, j: usize) -> Option<&'a [T]>
+        ensures { MatchOption result (kept_under (kept_of self.now.size self.now.leads.now (map T.value self.now.rows.now)) j ≡ None) (λ row. (length row.now ≡ self.now.size) × (kept_under (kept_of self.now.size self.now.leads.now (map T.value self.now.rows.now)) j ≡ Some (map T.value row.now))) }
+    {
+        let Some(r) = find_lead(self.leads, j) else {
+            return None;
+        };
+        Some(row_at(self.rows, self.size, r))
+    }
+}
+
+// One step at place t.
+fn step<T: Number>(
+    row: &mut [T],
+    wide_row: &mut [T::Wide],
+    other: &[T],
+    t: usize,
+) -> Result<(), PastLimit>
     requires room { length wide_row.old ≡ length row.old }
     requires alike { length other.now ≡ length row.old }
     requires inside { t < length row.old }
-    ensures within { result ≡ not (any_past T.kind (stepped T.kind (at T.kind (map T.value row.old) t) (at T.kind (map T.value other.now) t) (map T.value row.old) (map T.value other.now))) }
-    ensures stored { result ≡ true → map T.value row.new ≡ stepped T.kind (at T.kind (map T.value row.old) t) (at T.kind (map T.value other.now) t) (map T.value row.old) (map T.value other.now) }
+    ensures stored { OnOk result ((any_past T.kind (stepped T.kind (at T.kind (map T.value row.old) t) (at T.kind (map T.value other.now) t) (map T.value row.old) (map T.value other.now)) ≡ false) × (map T.value row.new ≡ stepped T.kind (at T.kind (map T.value row.old) t) (at T.kind (map T.value other.now) t) (map T.value row.old) (map T.value other.now))) }
+    ensures past { OnErr result (any_past T.kind (stepped T.kind (at T.kind (map T.value row.old) t) (at T.kind (map T.value other.now) t) (map T.value row.old) (map T.value other.now)) ≡ true) }
 {
     let (c, p) = T::lowest(row[t], other[t]);
     combine_row(wide_row, p, row, c, other);
@@ -45,63 +56,57 @@ fn step<T: Number>(row: &mut [T], wide_row: &mut [T::Wide], other: &[T], t: usiz
     store_row(row, wide_row)
 }
 
-// The row of n weights loses, column by column, what kept rows can take from it. Its sign is not yet looked at.
+// The row of n weights loses, column by column, what kept rows can take from it. The answer is the column of its lowest
+// term, absent where it has none. Its sign is not yet looked at.
 fn reduce<T: Number>(
     row: &mut [T],
     wide_row: &mut [T::Wide],
-    leads: &[usize],
-    rows: &[T],
+    kept: &Kept<T>,
     n: usize,
-) -> End
+) -> Result<Option<usize>, PastLimit>
     requires room { length wide_row.old ≡ length row.old }
-    requires whole { length leads.now * length row.old ≤ length rows.now }
+    requires alike { kept.now.size ≡ length row.old }
     requires inside { n ≤ length row.old }
-    ensures place { Inside result (length row.old - n) }
-    ensures result { told T.kind result (negated_if T.kind (ends_below T.kind n result (map T.value row.new)) (map T.value row.new)) ≡ handled T.kind n (kept_of (length row.old) leads.now (map T.value rows.now)) (length row.old - n) 0 (map T.value row.old) }
+    ensures { MatchResult result (λ lead. IfSome lead (λ j. j < length row.old - n) × (told T.kind lead (negated_if T.kind (ends_below T.kind n lead (map T.value row.new)) (map T.value row.new)) ≡ handled T.kind n (kept_of kept.now.size kept.now.leads.now (map T.value kept.now.rows.now)) (length row.old - n) 0 (map T.value row.old))) (λ e. passes ≡ handled T.kind n (kept_of kept.now.size kept.now.leads.now (map T.value kept.now.rows.now)) (length row.old - n) 0 (map T.value row.old)) }
 {
-    let size = row.len();
-    for j in 0..size - n {
+    for j in 0..row.len() - n {
         if row[n + j].is_zero() {
             continue;
         }
-        let Some(r) = find_lead(leads, j) else {
-            return End::Lead(j);
+        let Some(other) = kept.led_by(j) else {
+            return Ok(Some(j));
         };
-        if !step(row, wide_row, row_at(rows, size, r), n + j) {
-            return End::Refused;
-        }
+        step(row, wide_row, other, n + j)?;
     }
-    End::Balance
+    Ok(None)
 }
 
-// Whether a row of n weights that ends so is to be negated.
-fn ends_below<T: Number>(row: &[T], n: usize, end: End) -> bool
+// Whether a row of n weights, with its lowest term in this column, is to be negated.
+fn ends_below<T: Number>(row: &[T], n: usize, lead: Option<usize>) -> bool
     requires long { n ≤ length row.now }
-    requires inside { Inside end (length row.now - n) }
-    ensures { result ≡ ends_below T.kind n end (map T.value row.now) }
+    requires inside { IfSome lead (λ j. j < length row.now - n) }
+    ensures { result ≡ ends_below T.kind n lead (map T.value row.now) }
 {
-    match end {
-        End::Lead(j) => row[n + j].is_below_zero(),
-        End::Balance => leads_below(row, n),
-        End::Refused => false,
+    match lead {
+        Some(j) => row[n + j].is_below_zero(),
+        None => leads_below(row, n),
     }
 }
 
-// What becomes of a row of n weights, with its sign.
+// What becomes of a row of n weights, with its sign: the column of its lowest term, absent for a balance.
 pub(crate) fn handle<T: Number>(
     row: &mut [T],
     wide_row: &mut [T::Wide],
-    leads: &[usize],
-    rows: &[T],
+    kept: &Kept<T>,
     n: usize,
-) -> End
+) -> Result<Option<usize>, PastLimit>
     requires room { length wide_row.old ≡ length row.old }
-    requires whole { length leads.now * length row.old ≤ length rows.now }
+    requires alike { kept.now.size ≡ length row.old }
     requires inside { n ≤ length row.old }
-    ensures { told T.kind result (map T.value row.new) ≡ handled T.kind n (kept_of (length row.old) leads.now (map T.value rows.now)) (length row.old - n) 0 (map T.value row.old) }
+    ensures { MatchResult result (λ lead. told T.kind lead (map T.value row.new) ≡ handled T.kind n (kept_of kept.now.size kept.now.leads.now (map T.value kept.now.rows.now)) (length row.old - n) 0 (map T.value row.old)) (λ e. passes ≡ handled T.kind n (kept_of kept.now.size kept.now.leads.now (map T.value kept.now.rows.now)) (length row.old - n) 0 (map T.value row.old)) }
 {
-    let end = reduce(row, wide_row, leads, rows, n);
-    let below = ends_below(row, n, end);
+    let lead = reduce(row, wide_row, kept, n)?;
+    let below = ends_below(row, n, lead);
     negate_when(row, below);
-    end
+    Ok(lead)
 }

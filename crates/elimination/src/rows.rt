@@ -1,8 +1,12 @@
 // Single rows: starting, combining, dividing, storing, negating.
-ghost use Rattle.std.specs.Prelude.{◌≡◌, ◌+◌, ◌*◌, ◌<◌, ◌≤◌, true, false, not, ◌++◌, map, length, take, drop};
+ghost use Rattle.std.specs.Prelude.{◌≡◌, ◌+◌, ◌*◌, ◌<◌, ◌≤◌, true, false, ◌++◌, map, length, take, drop, OnOk, OnErr};
 ghost use Rattle.kinds.specs.Elimination.{less, divisor_from, over, any_past, leads_below, negated_if, unit};
 
 use kinds::Number;
+
+// A number passes the limit.
+#[derive(Clone, Copy)]
+pub(crate) struct PastLimit;
 
 // The n weights of the row with number b: 1 at its own place, 0 elsewhere.
 pub(crate) fn set_weights<T: Number>(row: &mut [T], n: usize, b: usize)
@@ -10,33 +14,42 @@ pub(crate) fn set_weights<T: Number>(row: &mut [T], n: usize, b: usize)
     requires inside { b < n }
     ensures { map T.value (take n row.new) ≡ unit T.kind n b }
 {
-    for i in 0..n {
-        row[i] = T::zero();
+    for x in row.iter_mut() {
+        *x = T::zero();
     }
     row[b] = T::one();
 }
 
-// The coefficients of a row, after its n weights: false where one passes the limit.
-pub(crate) fn set_coefficients<T: Number>(row: &mut [T], n: usize, coefficients: &[i64]) -> bool
+// The coefficients of a row, after its n weights.
+pub(crate) fn set_coefficients<T: Number>(
+    row: &mut [T],
+    n: usize,
+    coefficients: &[i64],
+) -> Result<(), PastLimit>
     requires { length row.old ≡ n + length coefficients.now }
-    ensures within { result ≡ not (any_past T.kind (map T.kind.counts coefficients.now)) }
-    ensures stored { result ≡ true → map T.value row.new ≡ map T.value (take n row.old) ++ map T.kind.counts coefficients.now }
+    ensures stored { OnOk result ((any_past T.kind (map T.kind.counts coefficients.now) ≡ false) × (map T.value row.new ≡ map T.value (take n row.old) ++ map T.kind.counts coefficients.now)) }
+    ensures past { OnErr result (any_past T.kind (map T.kind.counts coefficients.now) ≡ true) }
 {
-    for i in 0..coefficients.len() {
-        let Some(x) = T::counted(coefficients[i]) else {
-            return false;
+    for (i, k) in coefficients.iter().enumerate() {
+        let Some(x) = T::counted(*k) else {
+            return Err(PastLimit);
         };
         row[n + i] = x;
     }
-    true
+    Ok(())
 }
 
-// The starting row with number b: false where a number passes the limit.
-pub(crate) fn start_row<T: Number>(row: &mut [T], n: usize, b: usize, coefficients: &[i64]) -> bool
+// The starting row with number b.
+pub(crate) fn start_row<T: Number>(
+    row: &mut [T],
+    n: usize,
+    b: usize,
+    coefficients: &[i64],
+) -> Result<(), PastLimit>
     requires room { length row.old ≡ n + length coefficients.now }
     requires inside { b < n }
-    ensures within { result ≡ not (any_past T.kind (unit T.kind n b ++ map T.kind.counts coefficients.now)) }
-    ensures stored { result ≡ true → map T.value row.new ≡ unit T.kind n b ++ map T.kind.counts coefficients.now }
+    ensures stored { OnOk result ((any_past T.kind (unit T.kind n b ++ map T.kind.counts coefficients.now) ≡ false) × (map T.value row.new ≡ unit T.kind n b ++ map T.kind.counts coefficients.now)) }
+    ensures past { OnErr result (any_past T.kind (unit T.kind n b ++ map T.kind.counts coefficients.now) ≡ true) }
 {
     set_weights(row, n, b);
     set_coefficients(row, n, coefficients)
@@ -48,8 +61,8 @@ pub(crate) fn combine_row<T: Number>(out: &mut [T::Wide], a: T, row: &[T], c: T,
     requires alike { length other.now ≡ length out.old }
     ensures { map T.wide out.new ≡ less T.kind (T.value a) (map T.value row.now) (T.value c) (map T.value other.now) }
 {
-    for i in 0..out.len() {
-        out[i] = T::combined(a, row[i], c, other[i]);
+    for (i, x) in row.iter().enumerate() {
+        out[i] = T::combined(a, *x, c, other[i]);
     }
 }
 
@@ -67,24 +80,24 @@ pub(crate) fn row_divisor<T: Number>(row: &[T::Wide]) -> T::Wide
 pub(crate) fn divide_row<T: Number>(row: &mut [T::Wide], d: T::Wide)
     ensures { map T.wide row.new ≡ over T.kind (T.wide d) (map T.wide row.old) }
 {
-    for i in 0..row.len() {
-        row[i] = T::quotient(row[i], d);
+    for x in row.iter_mut() {
+        *x = T::quotient(*x, d);
     }
 }
 
-// Stores the row: false where a number passes the limit.
-pub(crate) fn store_row<T: Number>(row: &mut [T], from: &[T::Wide]) -> bool
+// Stores the row.
+pub(crate) fn store_row<T: Number>(row: &mut [T], from: &[T::Wide]) -> Result<(), PastLimit>
     requires { length from.now ≡ length row.old }
-    ensures within { result ≡ not (any_past T.kind (map T.wide from.now)) }
-    ensures stored { result ≡ true → map T.value row.new ≡ map T.wide from.now }
+    ensures stored { OnOk result ((any_past T.kind (map T.wide from.now) ≡ false) × (map T.value row.new ≡ map T.wide from.now)) }
+    ensures past { OnErr result (any_past T.kind (map T.wide from.now) ≡ true) }
 {
-    for i in 0..row.len() {
-        let Some(x) = T::narrowed(from[i]) else {
-            return false;
+    for (i, w) in from.iter().enumerate() {
+        let Some(x) = T::narrowed(*w) else {
+            return Err(PastLimit);
         };
         row[i] = x;
     }
-    true
+    Ok(())
 }
 
 // Whether the first nonzero of the first n numbers is below zero.
@@ -92,9 +105,9 @@ pub(crate) fn leads_below<T: Number>(row: &[T], n: usize) -> bool
     requires { n ≤ length row.now }
     ensures { result ≡ leads_below T.kind n (map T.value row.now) }
 {
-    for i in 0..n {
-        if !row[i].is_zero() {
-            return row[i].is_below_zero();
+    for x in &row[0..n] {
+        if !x.is_zero() {
+            return x.is_below_zero();
         }
     }
     false
@@ -103,8 +116,8 @@ pub(crate) fn leads_below<T: Number>(row: &[T], n: usize) -> bool
 fn negate_row<T: Number>(row: &mut [T])
     ensures { map T.value row.new ≡ map T.kind.neg (map T.value row.old) }
 {
-    for i in 0..row.len() {
-        row[i] = row[i].negated();
+    for x in row.iter_mut() {
+        *x = x.negated();
     }
 }
 

@@ -1,12 +1,14 @@
 // All rows in order, and the balances' weights.
-ghost use Rattle.std.specs.Prelude.{◌≡◌, ◌+◌, ◌-◌, ◌*◌, ◌<◌, ◌≤◌, ◌++◌, map, length, take, drop, IfOk, Some, None, Ok, Err, MatchOption, MatchResult};
+ghost use Rattle.std.specs.Prelude.{◌≡◌, ℕ, ◌+◌, ◌*◌, ◌<◌, ◌≤◌, true, false, ◌++◌, map, length, take, drop, IfOk, IfErr, Ok, Err, MatchResult};
 ghost use Rattle.kinds.specs.Kinds.{wholes, parities};
-ghost use Rattle.kinds.specs.Elimination.{added};
-ghost use Rattle.elimination.specs.Memory.{rows_of, state_of, told};
+ghost use Rattle.elimination.specs.Memory.{rows_of};
+ghost use Rattle.elimination.specs.States.{AsWritten};
 ghost use Rattle.elimination.specs.Answers.{sizes_fit, balances_of, solved, Exact};
+ghost use Rattle.elimination.specs.declared.solve.EliminationError.TheVariants.{Sizes, LargeNumber};
 
-use crate::reduce::{End, handle};
-use crate::rows::{keep_row, row_at, start_row};
+use crate::filed::{CELLS, COLUMNS, Filed, ROWS, SIZE};
+use crate::reduce::{Kept, handle};
+use crate::rows::{row_at, start_row};
 use kinds::{Number, Parity, Whole};
 
 // Why an elimination is refused.
@@ -18,99 +20,86 @@ pub enum EliminationError {
     LargeNumber(usize),
 }
 
-// Keeps a handled row of n weights after `used` others, or its weights after `found` other balances: how many balances
-// there are then, or nothing for a row that is refused.
-fn keep<T: Number>(
-    end: End,
-    row: &[T],
-    n: usize,
-    used: usize,
-    found: usize,
-    leads: &mut [usize],
-    rows: &mut [T],
-    balances: &mut [T],
-) -> Option<usize>
-    requires long { n ≤ length row.now }
-    requires led { used + found < length leads.old }
-    requires room { used * length row.now + length row.now ≤ length rows.old }
-    requires place { found * n + n ≤ length balances.old }
-    ensures { MatchOption result (added T.kind n (state_of n (length row.now) used found leads.old (map T.value rows.old) (map T.value balances.old)) (told T.kind end (map T.value row.now)) ≡ None) (λ more. (found ≤ more) × (more ≤ found + 1) × (added T.kind n (state_of n (length row.now) used found leads.old (map T.value rows.old) (map T.value balances.old)) (told T.kind end (map T.value row.now)) ≡ Some (state_of n (length row.now) (used + 1 + found - more) more leads.new (map T.value rows.new) (map T.value balances.new)))) }
-{
-    match end {
-        End::Lead(j) => {
-            leads[used] = j;
-            keep_row(rows, used * row.len(), row);
-            Some(found)
-        }
-        End::Balance => {
-            keep_row(balances, found * n, &row[0..n]);
-            Some(found + 1)
-        }
-        End::Refused => None,
-    }
-}
-
-// All rows in order, in lent memory: how many balances, whose weights lie one after another in `balances`, or the number
-// of a row that passes the limit.
-fn eliminate<T: Number>(
+// n rows of m whole coefficients each, one after another.
+#[derive(Drop)]
+struct Table<'a> {
     n: usize,
     m: usize,
-    coefficients: &[i64],
-    row: &mut [T],
-    wide_row: &mut [T::Wide],
-    leads: &mut [usize],
-    rows: &mut [T],
-    balances: &mut [T],
-) -> Result<usize, usize>
-    requires full { length coefficients.now ≡ n * m }
-    requires long { length row.old ≡ n + m }
-    requires wide { length wide_row.old ≡ n + m }
-    requires led { n ≤ length leads.old }
-    requires room { n * (n + m) ≤ length rows.old }
-    requires place { n * n ≤ length balances.old }
-    ensures { MatchResult result (λ k. (k ≤ n) × (balances_of T.kind n m coefficients.now ≡ Ok (rows_of k n (map T.value balances.new)))) (λ b. balances_of T.kind n m coefficients.now ≡ Err b) }
-{
-    let mut found = 0;
-    for b in 0..n {
-        if !start_row(row, n, b, row_at(coefficients, m, b)) {
-            return Err(b);
-        }
-        let used = b - found;
-        let end = handle(row, wide_row, &leads[0..used], rows, n);
-        let Some(more) = keep(end, row, n, used, found, leads, rows, balances) else {
-            return Err(b);
-        };
-        found = more;
-    }
-    Ok(found)
+    coefficients: &'a [i64],
+    ghost few: { n ≤ 32 },
+    ghost narrow: { m ≤ 256 },
+    ghost full: { length coefficients.now ≡ n * m },
 }
-
-// The first `count` numbers, as they are written.
-fn write_weights<T: Number>(weights: &mut [i32], balances: &[T], count: usize)
-    requires room { count ≤ length weights.old }
-    requires full { count ≤ length balances.now }
-    ensures { weights.new ≡ map T.kind.writes (map T.value (take count balances.now)) ++ drop count weights.old }
-{
-    for i in 0..count {
-        weights[i] = balances[i].written();
-    }
-}
-
-// The most rows, the most columns, and what numbers there are then in a row, in all rows, and in all balances.
-const ROWS: usize = 32;
-
-const COLUMNS: usize = 256;
-
-const SIZE: usize = ROWS + COLUMNS;
-
-const ALL: usize = ROWS * SIZE;
-
-const SQUARE: usize = ROWS * ROWS;
 
 fn sizes_fit(n: usize, m: usize, coefficients: usize, weights: usize) -> bool
     ensures { result ≡ sizes_fit n m coefficients weights }
 {
     n <= ROWS && m <= COLUMNS && coefficients == n * m && n * n <= weights
+}
+
+impl<'a> Table<'a> {
+    // The table, if its sizes fit and there is room for the weights.
+    fn fitting(
+        n: usize,
+        m: usize,
+        coefficients: &'a [i64],
+        weights: usize,
+    ) -> Result<Table<'a>, EliminationError>
+        ensures fits { IfOk result (λ t. (true ≡ sizes_fit n m (length coefficients.now) weights) × (t.n ≡ n) × (t.m ≡ m) × (t.coefficients.now ≡ coefficients.now)) }
+        ensures unfit { IfErr result (λ e. (e ≡ Sizes) × (false ≡ sizes_fit n m (length coefficients.now) weights)) }
+    {
+        if !sizes_fit(n, m, coefficients.len(), weights) {
+            return Err(EliminationError::Sizes);
+        }
+        Ok(Table { n, m, coefficients })
+    }
+
+    // The coefficients of the row with number b.
+    fn row(&self, b: usize) -> &'a [i64]
+        requires { b < self.now.n }
+        ensures row { result.now ≡ take self.now.m (drop (b * self.now.m) self.now.coefficients.now) }
+        ensures long { length result.now ≡ self.now.m }
+    {
+        row_at(self.coefficients, self.m, b)
+    }
+}
+
+// All rows in order, in lent memory: first the row at work, then the kept rows.
+fn eliminate<T: Number>(
+    table: &Table,
+    cells: &mut [T],
+    wide_row: &mut [T::Wide],
+) -> Result<Filed, EliminationError>
+    requires cells { 9504 ≤ length cells.old }
+    requires wide { 288 ≤ length wide_row.old }
+    ensures { MatchResult result (λ f. (f.found ≤ table.now.n) × AsWritten T.kind table.now.n f × (balances_of T.kind table.now.n table.now.m table.now.coefficients.now ≡ Ok (rows_of f.found table.now.n (map T.kind.counts f.weights)))) (λ e. (b : ℕ) × (e ≡ LargeNumber b) × (balances_of T.kind table.now.n table.now.m table.now.coefficients.now ≡ Err b)) }
+{
+    let size = table.n + table.m;
+    let (row, rows) = cells.split_at_mut(SIZE);
+    let row = &mut row[0..size];
+    let wide_row = &mut wide_row[0..size];
+    let mut filed = Filed::new();
+    for b in 0..table.n {
+        let large = EliminationError::LargeNumber(b);
+        let Ok(()) = start_row(row, table.n, b, table.row(b)) else {
+            return Err(large);
+        };
+        let leads = &filed.leads[0..filed.used];
+        let Ok(lead) = handle(row, wide_row, &Kept { size, leads, rows }, table.n) else {
+            return Err(large);
+        };
+        filed.keep(lead, row, table.n, rows);
+    }
+    Ok(filed)
+}
+
+// Writes the first `count` numbers.
+fn write_front(weights: &mut [i32], from: &[i32], count: usize)
+    requires room { count ≤ length weights.old }
+    requires full { count ≤ length from.now }
+    ensures { weights.new ≡ take count from.now ++ drop count weights.old }
+{
+    weights[0..count].copy_from_slice(&from[0..count]);
 }
 
 // The sizes are tested, then all rows handled in lent memory, and the balances' weights written.
@@ -119,39 +108,18 @@ fn solve<T: Number>(
     m: usize,
     coefficients: &[i64],
     weights: &mut [i32],
-    row: &mut [T],
+    cells: &mut [T],
     wide_row: &mut [T::Wide],
-    leads: &mut [usize],
-    rows: &mut [T],
-    balances: &mut [T],
 ) -> Result<usize, EliminationError>
-    requires long { 288 ≤ length row.old }
+    requires cells { 9504 ≤ length cells.old }
     requires wide { 288 ≤ length wide_row.old }
-    requires led { 32 ≤ length leads.old }
-    requires room { 9216 ≤ length rows.old }
-    requires place { 1024 ≤ length balances.old }
     ensures result { (result, weights.new) ≡ solved T.kind n m coefficients.now weights.old }
     ensures exact { IfOk result (λ k. Exact T.kind n m coefficients.now k weights.new) }
 {
-    if !sizes_fit(n, m, coefficients.len(), weights.len()) {
-        return Err(EliminationError::Sizes);
-    }
-    match eliminate(
-        n,
-        m,
-        coefficients,
-        &mut row[0..n + m],
-        &mut wide_row[0..n + m],
-        leads,
-        rows,
-        balances,
-    ) {
-        Ok(k) => {
-            write_weights(weights, balances, k * n);
-            Ok(k)
-        }
-        Err(b) => Err(EliminationError::LargeNumber(b)),
-    }
+    let table = Table::fitting(n, m, coefficients, weights.len())?;
+    let filed = eliminate(&table, cells, wide_row)?;
+    write_front(weights, &filed.weights, filed.found * n);
+    Ok(filed.found)
 }
 
 // The balances of n rows of m whole coefficients each, which lie one after another: how many there are, and their
@@ -165,22 +133,9 @@ pub fn eliminate_whole(
     ensures result { (result, weights.new) ≡ solved wholes n m coefficients.now weights.old }
     ensures exact { IfOk result (λ k. Exact wholes n m coefficients.now k weights.new) }
 {
-    let mut row = [Whole::zero(); SIZE];
+    let mut cells = [Whole::zero(); CELLS];
     let mut wide_row = [Whole::wide_zero(); SIZE];
-    let mut leads = [0; ROWS];
-    let mut rows = [Whole::zero(); ALL];
-    let mut balances = [Whole::zero(); SQUARE];
-    solve(
-        n,
-        m,
-        coefficients,
-        weights,
-        &mut row,
-        &mut wide_row,
-        &mut leads,
-        &mut rows,
-        &mut balances,
-    )
+    solve(n, m, coefficients, weights, &mut cells, &mut wide_row)
 }
 
 // The same in parities, where 1 is written for an odd weight and 0 for an even one.
@@ -193,20 +148,7 @@ pub fn eliminate_parity(
     ensures result { (result, weights.new) ≡ solved parities n m coefficients.now weights.old }
     ensures exact { IfOk result (λ k. Exact parities n m coefficients.now k weights.new) }
 {
-    let mut row = [Parity::zero(); SIZE];
+    let mut cells = [Parity::zero(); CELLS];
     let mut wide_row = [Parity::wide_zero(); SIZE];
-    let mut leads = [0; ROWS];
-    let mut rows = [Parity::zero(); ALL];
-    let mut balances = [Parity::zero(); SQUARE];
-    solve(
-        n,
-        m,
-        coefficients,
-        weights,
-        &mut row,
-        &mut wide_row,
-        &mut leads,
-        &mut rows,
-        &mut balances,
-    )
+    solve(n, m, coefficients, weights, &mut cells, &mut wide_row)
 }

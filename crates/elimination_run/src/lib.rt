@@ -4,7 +4,7 @@
 #[cfg(test)]
 mod tests {
     use elimination::{EliminationError, eliminate_parity, eliminate_whole};
-    use kinds::gcd;
+    use kinds::{Number, Parity, Whole, gcd};
 
     // Three rows over three columns: the third is the sum of the first two.
     const FLOWS: [i64; 9] = [1, -1, 0, 0, 1, -1, 1, 0, -1];
@@ -82,6 +82,18 @@ mod tests {
             Err(EliminationError::Sizes)
         );
         assert_eq!(rt; weights, [7, 7, 7, 7]);
+    }
+
+    #[test]
+    fn counted(rt: HostRuntime) {
+        assert_eq!(rt; Whole::counted(1), Some(Whole::one()));
+        assert_eq!(rt;
+            Whole::counted(-1000000),
+            Whole::counted(1000000).map(Whole::negated)
+        );
+        assert_eq!(rt; Whole::counted(1000001), None);
+        assert_eq!(rt; Parity::counted(-3), Some(Parity { odd: true }));
+        assert_eq!(rt; Parity::counted(1000001), Parity::counted(1));
     }
 
     #[test]

@@ -1,8 +1,7 @@
 -- Columns and a rising form, walked together, give the form's coefficients in the columns.
-use Rattle.std.proofs.Common.{◌≡◌, ℕ, suc, ◌<◌, ◌≤◌, Bool, eqb, List, [], ◌∷◌, map, length, get_or, ℤ, pos, ◌+ℤ◌, sym, refl, ap, ◌∙◌, subst, ap₂, inl, inr, arith}
+use Rattle.std.proofs.Common.{◌≡◌, ℕ, suc, ◌<◌, ◌≤◌, Bool, eqb, List, [], ◌∷◌, map, ℤ, pos, ◌+ℤ◌, sym, refl, ap, ◌∙◌, subst, ap₂, inl, inr, arith}
 use lib.IntN.{+ℤ_idr, +ℤ_idl}
 use Rattle.std.specs.List.{AllByRecursion}
-use Rattle.std.proofs.lemmas.List.{get_or-map}
 use Rattle.std.proofs.lemmas.Bool.{cond_both, eqb-true, eqb-false, ne_eqb}
 use Rattle.terms.specs.Forms.{Form, Rising}
 use Rattle.terms.proofs.Values.{share}
@@ -59,6 +58,3 @@ each_merged cs (p ∷ ps) c w k = ap₂ (λ (z : List ℤ) (zs : List (List ℤ)
 -- of rising flows, the rows of coefficients
 pub merges : (flows : List Form) → AllByRecursion (Rising 0) flows → map (merged (columns_of flows)) flows ≡ table flows
 merges flows w = each_merged (columns_of flows) flows (columns_climb flows) w (columns_cover flows)
-
-pub merges_at : (flows : List Form) (b : ℕ) → b < length flows → AllByRecursion (Rising 0) flows → merged (columns_of flows) (get_or flows b []) ≡ get_or (table flows) b []
-merges_at flows b l w = sym (get_or-map (merged (columns_of flows)) flows b [] [] l) ∙ ap (λ (rows : List (List ℤ)). get_or rows b []) (merges flows w)

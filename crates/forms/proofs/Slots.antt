@@ -1,22 +1,13 @@
 -- Slots as the forms that they hold, and the forms of gates worked out from them.
-use Rattle.std.proofs.Common.{◌≡◌, ℕ, ◌+◌, ◌-◌, ◌^◌, ◌<◌, ◌≤◌, Bool, true, false, List, [], ◌∷◌, ◌++◌, length, get_or, take, set, pos, nat_abs, Some, None, Option, unwrap_or, sym, refl, ap, ◌∙◌, subst, mul-le-mul_right, mul-le-mul, arith, length-set, MatchOption}
-use native.Mathlib.Nat.{sub-zero}
-use Rattle.std.proofs.lemmas.List.{get_or-map, get_or_past, length-map, take_more, take_more_set, drop-set-lt}
+use Rattle.std.proofs.Common.{◌≡◌, ℕ, ◌^◌, ◌≤◌, Bool, true, false, List, [], ◌∷◌, length, set, pos, nat_abs, Some, None, Option, unwrap_or, sym, refl, ap, ◌∙◌, subst, mul-le-mul_right, mul-le-mul, arith, length-set, MatchOption}
+use Rattle.std.proofs.lemmas.List.{take_more_set, drop-set-lt}
 use Rattle.std.proofs.lemmas.Bool.{and_from, or_parts, le-leb, lt-ltb, ltb-false, both_ways}
 use Rattle.terms.specs.declared.term.Term.{Term}
 use Rattle.terms.specs.Forms.{Form, one_form, norm}
 use Rattle.terms.specs.Records.{entry_of, form_in, light, gate_fits, product_room, sum_room, Held, WorkedOut}
 use Rattle.terms.proofs.Norms.{Small, small_norm}
-use Rattle.terms.proofs.Recorded.{unread, length_form_in, onward, holding}
-use Rattle.forms.specs.declared.slot.Slot.{Slot}
+use Rattle.terms.proofs.Recorded.{length_form_in, onward, holding}
 use Rattle.forms.specs.Gates.{large}
-use Rattle.forms.specs.Slots.{slot_form, slot_forms}
-
-pub slot_form_lem : (ss : List Slot) (i line : ℕ) (s : Slot) → i ≡ line → i < length ss → ((d : Slot) → s ≡ get_or ss i d) → slot_form s ≡ get_or (slot_forms ss) line []
-slot_form_lem ss i line s e h f = ap slot_form (f s) ∙ sym (get_or-map slot_form ss i s [] h) ∙ ap (λ k. get_or (slot_forms ss) k []) e
-
-pub no_slot : (ss : List Slot) (i line : ℕ) → i ≡ line → length ss ≤ i → ◌≡◌ {A = Form} [] (get_or (slot_forms ss) line [])
-no_slot ss i line e h = sym (get_or_past (slot_forms ss) line [] (omega (arith, length-map ss slot_form)))
 
 pub product_room_lem : (one other : List Term) → length one ≤ 24 → length other ≤ 24 → product_room one other ≤ 624
 product_room_lem one other h k = omega (arith, mul-le-mul h k)
@@ -40,13 +31,6 @@ one_held W t h e =
 pub surely : (p : Form) (before after : List Term) (r : Option ℕ) (n : ℕ) → MatchOption r ⊥ (λ m. Held 624 p before after m) → n ≡ unwrap_or r 0 → Held 624 p before after n
 surely p before after None n c e = absurd c
 surely p before after (Some m) n c e = subst (λ k. Held 624 p before after k) (sym e) c
-
--- a held form, as the code lends its records
-pub held_part : (reach : ℕ) (p : Form) (before after : List Term) (n : ℕ) → Held reach p before after n → form_in (take (n - 0) after) ≡ p
-held_part reach p before after n h = ap (λ k. form_in (take k after)) (sub-zero n) ∙ h.form
-
-pub copied_more : (ts form : List Term) (i : ℕ) → i < length ts → i < length form → take i ts ≡ take i form → take (i + 1) (set ts i (get_or form i unread)) ≡ take (i + 1) form
-copied_more ts form i h k e = take_more_set ts i (get_or form i unread) h ∙ ap (λ l. l ++ get_or form i unread ∷ []) e ∙ sym (take_more form i unread k)
 
 -- a form within the limits is light: at most 24 coefficients of at most 8,388,608 each
 pub light_held : (ts : List Term) → length ts ≤ 24 → large (form_in ts) ≡ false → light ts ≡ true

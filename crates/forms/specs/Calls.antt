@@ -1,24 +1,15 @@
 -- What the calls about wires answer and write.
-use Rattle.std.specs.Prelude.{ℕ, Bool, not, ◌&&◌, List, [], ◌++◌, map, length, drop, Ok, Err, Result, nat_lt, slice_index_or}
+use Rattle.std.specs.Prelude.{ℕ, Bool, not, ◌&&◌, List, [], map, length, Ok, Result, nat_lt, slice_index_or}
 use Rattle.sheet.specs.declared.node.Node.{Node}
 use Rattle.sheet.specs.declared.fault.Fault.{Fault}
 use Rattle.sheet.specs.declared.fault.Refusal.TheVariants.{NoWire, ShortRecords}
 use Rattle.sheet.specs.Refusals.{and_then, refuse_if}
+pub use Rattle.sheet.specs.Outcomes.{Outcome, written}
 use Rattle.sheet.specs.Nodes.{wire_at}
 use Rattle.terms.specs.declared.term.Term.{Term}
 use Rattle.terms.specs.Forms.{Form, same}
 use Rattle.terms.specs.Records.{term_of}
 use Rattle.forms.specs.Gates.{forms_of, limits}
-
--- a call's answer, and what the memory handed to it holds afterwards
-pub record Outcome (R M : Type 0) : Type 0 where
-  pub answer : Result R Fault
-  pub memory : List M
-
--- what is accepted is told and written from the first place on, later places stay; a refusal leaves all as it was
-abbrev pub written : {X R M : Type 0} → (X → R) → (X → List M) → Result X Fault → List M → Outcome R M
-written tells writes (Ok x) memory = record { answer = Ok (tells x); memory = writes x ++ drop (length (writes x)) memory }
-written tells writes (Err f) memory = record { answer = Err f; memory = memory }
 
 -- a wire's form: the number names a wire, and every gate's form is within the limits
 abbrev pub form_of : List Node → ℕ → Result Form Fault

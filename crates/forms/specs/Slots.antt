@@ -1,10 +1,13 @@
 -- What a slot stands for.
-use Rattle.std.specs.Prelude.{◌≡◌, ℕ, ◌≤◌, List, map, take, Ok, Err, Result, MatchResult}
+use Rattle.std.specs.Prelude.{◌≡◌, ℕ, ◌+◌, List, map, take, Ok, Err, Result, MatchResult}
 use Rattle.sheet.specs.declared.node.Node.{Node}
 use Rattle.sheet.specs.declared.fault.Fault.{Fault}
 use Rattle.terms.specs.Forms.{Form}
 use Rattle.terms.specs.Records.{form_in}
 use Rattle.forms.specs.declared.slot.Slot.{Slot}
+use Rattle.sheet.specs.Nodes.{is_free}
+use Rattle.sheet.specs.Wires.{bit}
+use Rattle.forms.specs.declared.filling.Filling.{Filling}
 use Rattle.forms.specs.declared.held.Forms.{Forms}
 use Rattle.forms.specs.Gates.{together, forms_of, limits}
 
@@ -16,10 +19,12 @@ slot_form s = form_in (take s.len s.terms)
 abbrev pub slot_forms : List Slot → List Form
 slot_forms ss = map slot_form ss
 
--- a line's form p in a slot, with how many terms the gates' forms have together, or the limit that it passes
-abbrev pub Lined : ℕ → ℕ → Node → Form → Result (Slot × ℕ) Fault → Type 0
-Lined sofar line n p r =
-    MatchResult r (λ t. (slot_form t.0 ≡ p) × (together sofar line n p ≡ Ok t.1) × (t.1 ≤ 2048)) (λ e. together sofar line n p ≡ Err e)
+-- after line n with the form p, which comes behind `before`: its slot, and what stands before the next line; or the limit that it passes
+abbrev pub Lined : Filling → ℕ → Node → Form → Filling → Result Slot Fault → Type 0
+Lined before line n p after r =
+    MatchResult r
+    (λ s. (slot_form s ≡ p) × (together before.terms line n p ≡ Ok after.terms) × (after.free ≡ before.free + bit (is_free n)))
+    (λ e. together before.terms line n p ≡ Err e)
 
 -- the forms of a sheet's lines
 abbrev pub forms_in : Forms → List Form

@@ -1,4 +1,4 @@
-ghost use Rattle.std.specs.Prelude.{◌≡◌, ◌≤◌, [], length, if◌then◌else◌, MatchOption, nat_lt};
+ghost use Rattle.std.specs.Prelude.{◌≡◌, ◌≤◌, [], length, if◌then◌else◌, MatchOption, nat_lt, unsigned_abs};
 ghost use Rattle.terms.specs.Forms.{one_form};
 ghost use Rattle.terms.specs.Records.{form_in, Held};
 ghost use Rattle.forms.specs.Gates.{gate_form, large};
@@ -51,20 +51,16 @@ fn gate_form(before: &[Slot], gate: Gate, work: &mut [Term]) -> Option<usize>
     }
 }
 
-fn is_past(size: u64) -> bool
-    ensures { result ≡ nat_lt 8388608 size }
+// Whether a term's coefficient passes its limit.
+fn is_past(term: Term) -> bool
+    ensures { result ≡ nat_lt 8388608 (unsigned_abs term.coefficient) }
 {
-    size > MOST_COEFFICIENT
+    term.coefficient.unsigned_abs() > MOST_COEFFICIENT
 }
 
-// Whether a coefficient passes its limit.
+// Whether some coefficient passes its limit.
 pub(crate) fn is_large(form: &[Term]) -> bool
     ensures { result ≡ large (form_in form.now) }
 {
-    for term in form {
-        if is_past(term.coefficient.unsigned_abs()) {
-            return true;
-        }
-    }
-    false
+    form.iter().any(|term| is_past(*term))
 }

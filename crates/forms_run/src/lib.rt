@@ -3,6 +3,7 @@
 #[cfg(test)]
 mod tests {
     use forms::{same_form, terms};
+    use sheet::fault::Fault;
     use sheet::sheet::Sheet;
     use terms::Term;
 
@@ -23,26 +24,30 @@ mod tests {
     const ALIKE: &[u8] =
         b"kind left right\ni - -\ni - -\nn 0 -\nn 1 -\na 2 3\nn 4 -\no 0 1\nx 0 1\n";
 
-    // What telling a wire's form answers: 0 and the number of terms, or the refusal's number and place.
-    fn told(text: &[u8], wire: u16, records: &mut [Term]) -> (u8, usize) {
-        match Sheet::load(text) {
-            Ok(sheet) => match terms(&sheet, wire, records) {
-                Ok(n) => (0, n),
-                Err(fault) => (fault.refusal.number(), usize::from(fault.place)),
-            },
+    // What telling a wire's form answers, where the text is a sheet.
+    fn tell(text: &[u8], wire: u16, records: &mut [Term]) -> Result<usize, Fault> {
+        terms(&Sheet::load(text)?, wire, records)
+    }
+
+    fn compare(text: &[u8], one: u16, other: u16) -> Result<bool, Fault> {
+        same_form(&Sheet::load(text)?, one, other)
+    }
+
+    // An answer: 0 and what it tells, or the refusal's number and place.
+    fn answer(told: Result<usize, Fault>) -> (u8, usize) {
+        match told {
+            Ok(n) => (0, n),
             Err(fault) => (fault.refusal.number(), usize::from(fault.place)),
         }
     }
 
-    // What comparing two wires answers: 0 and 1 or 0, or the refusal's number and place.
+    fn told(text: &[u8], wire: u16, records: &mut [Term]) -> (u8, usize) {
+        answer(tell(text, wire, records))
+    }
+
+    // The same of comparing two wires, which tells 1 or 0.
     fn compared(text: &[u8], one: u16, other: u16) -> (u8, usize) {
-        match Sheet::load(text) {
-            Ok(sheet) => match same_form(&sheet, one, other) {
-                Ok(alike) => (0, usize::from(alike)),
-                Err(fault) => (fault.refusal.number(), usize::from(fault.place)),
-            },
-            Err(fault) => (fault.refusal.number(), usize::from(fault.place)),
-        }
+        answer(compare(text, one, other).map(usize::from))
     }
 
     #[test]

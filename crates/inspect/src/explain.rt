@@ -24,5 +24,5 @@ pub(crate) fn broken_rule(refusal: Refusal) -> &'static str {
 pub(crate) fn names_a_line(refusal: Refusal) -> bool
     ensures { result ≡ nat_lt 2 (refusals.number refusal) }
 {
-    refusal.number() > 2
+    !matches!(refusal, Refusal::UnfitText | Refusal::WrongNamesLine)
 }

@@ -1,7 +1,6 @@
 #![tactic(auto)]
 
 mod explain;
-mod parts;
 mod report;
 
 use report::{print_refusal, print_sheet};

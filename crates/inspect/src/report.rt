@@ -1,36 +1,68 @@
 use crate::explain::{broken_rule, names_a_line};
-use crate::parts::{Part, find_part};
 use sheet::class::Class;
 use sheet::fault::Fault;
 use sheet::node::Node;
+use sheet::parts::{Part, find_part};
 use sheet::sheet::Sheet;
-use std::alloc::{AllocError, Global};
-
-// How many bit lines a belt may have.
-const MOST_BITS: usize = 4;
+use std::fmt::{self, Display};
 
 // A line number, or a dash where there is none.
-fn shown(heap: Global, line: Option<usize>) -> Result<String, AllocError> {
-    match line {
-        Some(n) => n.to_string(heap),
-        None => String::from_str(heap, "-"),
+#[derive(Clone, Copy)]
+struct Place(Option<usize>);
+
+impl Display for Place {
+    fn fmt<W: fmt::Write>(&self, f: &mut fmt::Formatter<W>) -> fmt::Result {
+        match self.0 {
+            Some(line) => line.fmt(f),
+            None => f.pad("-"),
+        }
     }
 }
 
-// The bit lines of belt `b`, bit 0 first, or a dash where there is none.
-fn shown_bits(heap: Global, b: usize, nodes: &[Node]) -> Result<String, AllocError> {
-    let mut next = find_part(Part::Bit, b, nodes, 0);
-    let mut text = shown(heap, next)?;
-    for _ in 1..MOST_BITS {
-        if let Some(line) = next {
-            next = find_part(Part::Bit, b, nodes, line.saturating_add(1));
-        }
-        if let Some(line) = next {
-            let word = format!(in heap; " {line}")?;
-            text.push_str(word.as_str())?;
-        }
+// A belt of a sheet with these nodes: its number, its line, and the wires that it names.
+#[derive(Clone, Copy)]
+struct Belt<'a> {
+    nodes: &'a [Node],
+    number: usize,
+    line: usize,
+    offer: u16,
+    take: u16,
+}
+
+impl Belt<'_> {
+    // The first line that is such a part of the belt.
+    fn part(&self, part: Part) -> Place {
+        Place(find_part(part, self.number, self.nodes, 0))
     }
-    Ok(text)
+}
+
+// The belt's row: its bit lines stand last, bit 0 first, or a dash where there is none.
+impl Display for Belt<'_> {
+    fn fmt<W: fmt::Write>(&self, f: &mut fmt::Formatter<W>) -> fmt::Result {
+        let Belt {
+            number,
+            line,
+            offer,
+            take,
+            ..
+        } = *self;
+        let room = self.part(Part::Room);
+        let item = self.part(Part::Item);
+        let first = self.part(Part::Bit);
+        write!(
+            f,
+            "{number:>4} {line:>5} {offer:>6} {take:>5} {room:>5} {item:>5}  {first}"
+        )?;
+        let bits = self
+            .nodes
+            .iter()
+            .enumerate()
+            .filter(|(_, node)| node.is_part(Part::Bit, number));
+        for (bit, _) in bits.skip(1) {
+            write!(f, " {bit}")?;
+        }
+        Ok(())
+    }
 }
 
 fn print_counts(rt: &HostRuntime, sheet: &Sheet) -> anyhow::Result<()> {
@@ -51,43 +83,33 @@ fn print_counts(rt: &HostRuntime, sheet: &Sheet) -> anyhow::Result<()> {
     Ok(())
 }
 
-fn print_belt(
-    rt: &HostRuntime,
-    nodes: &[Node],
-    b: usize,
-    line: usize,
-    offer: u16,
-    take: u16,
-) -> anyhow::Result<()> {
-    let heap = rt.alloc();
-    let room = shown(heap, find_part(Part::Room, b, nodes, 0))?;
-    let item = shown(heap, find_part(Part::Item, b, nodes, 0))?;
-    let bits = shown_bits(heap, b, nodes)?;
-    println!(rt; "{b:>4} {line:>5} {offer:>6} {take:>5} {room:>5} {item:>5}  {bits}")?;
-    Ok(())
-}
-
 // What a sheet holds: its counts, and a row for each belt.
 pub(crate) fn print_sheet(rt: &HostRuntime, sheet: &Sheet) -> anyhow::Result<()> {
     print_counts(rt, sheet)?;
     println!(rt; "\nbelt  line  offer  take  room  item  bits")?;
     let nodes = sheet.nodes();
-    let mut b: usize = 0;
-    for (line, node) in nodes.iter().enumerate() {
-        if let Node::Belt { offer, take } = *node {
-            print_belt(rt, nodes, b, line, offer, take)?;
-            b = b.saturating_add(1);
-        }
+    let belts = nodes.iter().enumerate().filter_map(|(line, node)| match *node {
+        Node::Belt { offer, take } => Some((line, offer, take)),
+        _ => None,
+    });
+    for (number, (line, offer, take)) in belts.enumerate() {
+        let belt = Belt {
+            nodes,
+            number,
+            line,
+            offer,
+            take,
+        };
+        println!(rt; "{belt}")?;
     }
     Ok(())
 }
 
 // The refusal line, and a line that says which rule is broken and where.
 pub(crate) fn print_refusal(rt: &HostRuntime, fault: Fault) -> anyhow::Result<()> {
-    let number = fault.refusal.number();
-    let place = fault.place;
-    println!(rt; "refused {number} at {place}")?;
+    println!(rt; "{fault}")?;
     let rule = broken_rule(fault.refusal);
+    let place = fault.place;
     if names_a_line(fault.refusal) {
         let row = u32::from(place) + 2;
         println!(rt; "value line {place}, which is line {row} of the text, breaks a rule: {rule}")?;

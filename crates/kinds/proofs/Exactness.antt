@@ -3,14 +3,15 @@ use Rattle.std.proofs.Common.{◌≡◌, ℕ, zero, suc, ◌*◌, ◌/◌, ◌^�
 use lib.Signed.{quot_z}
 use borrow.Author.Differences.{ints}
 use Rattle.std.proofs.lemmas.Int.{to_z-of_z, to_z_pos}
-use Rattle.kinds.specs.Wholes.{abs_neg, abs_product}
+use Rattle.std.proofs.lemmas.Int.{unsigned_abs-mul}
+use Rattle.kinds.specs.Wholes.{abs_neg}
 
 -- a number that is small goes through 64 bits unchanged
 back : (z : ℤ) → nat_abs z ≤ 4000000000000 → to_z w64 (of_z w64 z) ≡ z
 back z h = let f : SFits w64 z = omega (arith, ints) in to_z-of_z w64 z f
 
 product_small : (a b : ℤ) → nat_abs a ≤ 1000000 → nat_abs b ≤ 1000000 → nat_abs (a *ℤ b) ≤ 1000000000000
-product_small a b p q = let m : nat_abs a * nat_abs b ≤ 1000000 * 1000000 = mul-le-mul p q in omega (arith, abs_product a b)
+product_small a b p q = let m : nat_abs a * nat_abs b ≤ 1000000 * 1000000 = mul-le-mul p q in omega (arith, unsigned_abs-mul a b)
 
 product_back : (a b r s : ℤ) → r ≡ a → s ≡ b → nat_abs a ≤ 1000000 → nat_abs b ≤ 1000000 → to_z w64 (of_z w64 (to_z w64 (of_z w64 r) *ℤ to_z w64 (of_z w64 s))) ≡ a *ℤ b
 product_back a b r s er es p q =

@@ -17,11 +17,6 @@ module _ {K : Kind} (L : Lawful K) where
 
   infixl 6 ◌⊕◌
   infixl 7 ◌⊗◌
-  at_zeros : (n i : ℕ) → at K (replicate n 𝟘) i ≡ 𝟘
-  at_zeros zero i = refl
-  at_zeros (suc n) zero = refl
-  at_zeros (suc n) (suc i) = at_zeros n i
-
   zeros_front : (n i : ℕ) (f : List A) → i < n → at K (replicate n 𝟘 ++ f) i ≡ 𝟘
   zeros_front zero i f h = absurd (omega arith)
   zeros_front (suc n) zero f h = refl

@@ -2,7 +2,7 @@
 use Rattle.std.specs.Prelude.{◌≡◌, ℕ, zero, suc, ◌+◌, ◌-◌, ◌*◌, ◌/◌, ◌%◌, ◌<◌, Bool, true, false, cond, not, ◌&&◌, T, ℤ, pos, negsuc, ◌+ℤ◌, ◌*ℤ◌, ◌==◌, nat_eq, nat_lt, unsigned_abs, refl}
 use Rattle.std.proofs.Common.{sym, ap, ◌∙◌, true≢false, arith, ltb→lt, lt→ltb}
 use Rattle.std.proofs.Math.Nat.{div-add-mod}
-use Rattle.kinds.specs.Wholes.{abs_product}
+use Rattle.std.proofs.lemmas.Int.{unsigned_abs-mul}
 use Rattle.kinds.specs.Kinds.{Lawful, parities, differ}
 
 pub plus_comm : (a b : Bool) → differ a b ≡ differ b a
@@ -89,7 +89,7 @@ odd_times m n =
     times_by (m / 2) (m % 2) n (m * n) (omega arith) (omega arith)
 
 odd_product : (x y : ℤ) → (unsigned_abs (x *ℤ y) % 2 == 1) ≡ (unsigned_abs x % 2 == 1 && unsigned_abs y % 2 == 1)
-odd_product x y = ap (λ n. nat_eq (n % 2) 1) (abs_product x y) ∙ odd_times (unsigned_abs x) (unsigned_abs y)
+odd_product x y = ap (λ n. nat_eq (n % 2) 1) (unsigned_abs-mul x y) ∙ odd_times (unsigned_abs x) (unsigned_abs y)
 
 odd_bit : (b : Bool) → (unsigned_abs (cond b (pos 1) (pos 0)) % 2 == 1) ≡ b
 odd_bit true = refl

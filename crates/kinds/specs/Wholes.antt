@@ -3,6 +3,7 @@ use Rattle.std.specs.Prelude.{◌≡◌, ℕ, zero, suc, ◌+◌, ◌*◌, ◌/�
 use Rattle.std.proofs.Common.{sym, ap, ◌∙◌, mul-one, mul-zero, mul-pos, arith, eqb→eq}
 use Rattle.std.proofs.Math.Nat.{zero-div}
 use Rattle.std.proofs.Math.IntN.{+ℤ_comm, +ℤ_assoc, +ℤ_idr, +ℤ_invr, *ℤ_comm}
+use Rattle.std.proofs.lemmas.Int.{unsigned_abs-mul}
 use borrow.Author.Differences.{up, down, same_in, sum_is_lem, product_is}
 use Rattle.kinds.specs.Kinds.{Lawful, wholes, gcd}
 use Rattle.kinds.specs.Euclid.{Divisor, gcd_left, gcd_right, exact_ℕ}
@@ -32,12 +33,6 @@ pub abs_neg : (n : ℕ) → unsigned_abs (neg_ℤ (pos n)) ≡ n
 abs_neg zero = refl
 abs_neg (suc n) = refl
 
-pub abs_product : (x y : ℤ) → unsigned_abs (x *ℤ y) ≡ unsigned_abs x * unsigned_abs y
-abs_product (pos a) (pos b) = refl
-abs_product (pos a) (negsuc b) = abs_neg (a * suc b)
-abs_product (negsuc a) (pos b) = abs_neg (suc a * b)
-abs_product (negsuc a) (negsuc b) = refl
-
 pub abs_zero : (z : ℤ) → unsigned_abs z ≡ 0 → z ≡ pos 0
 abs_zero (pos n) e = ap pos e
 abs_zero (negsuc n) e = absurd (omega arith)
@@ -47,7 +42,7 @@ factor_zero m zero e h = refl
 factor_zero m (suc n) e h = let p : 0 < m * suc n = mul-pos (omega arith) (omega arith) in absurd (omega arith)
 
 pub *ℤ_none : (x y : ℤ) → x *ℤ y ≡ pos 0 → x ≢ pos 0 → y ≡ pos 0
-*ℤ_none x y e h = abs_zero y (factor_zero (unsigned_abs x) (unsigned_abs y) (sym (abs_product x y) ∙ ap unsigned_abs e) (λ z. h (abs_zero x z)))
+*ℤ_none x y e h = abs_zero y (factor_zero (unsigned_abs x) (unsigned_abs y) (sym (unsigned_abs-mul x y) ∙ ap unsigned_abs e) (λ z. h (abs_zero x z)))
 
 abbrev pub none : ℤ → Bool
 none z = unsigned_abs z == 0
@@ -88,7 +83,7 @@ pub divides_right : (x y : ℤ) → (q : ℤ) × (divisor x y *ℤ q ≡ y)
 divides_right x y = divides (gcd (unsigned_abs x) (unsigned_abs y)) y (gcd_right (unsigned_abs x) (unsigned_abs y))
 
 pub exact : (x d : ℤ) → (q : ℤ) × (d *ℤ q ≡ x) → d *ℤ int_div x d ≡ x
-exact x d (q, e) = exact_by x d (exact_ℕ (unsigned_abs d) (unsigned_abs q) (unsigned_abs x) (sym (abs_product d q) ∙ ap unsigned_abs e))
+exact x d (q, e) = exact_by x d (exact_ℕ (unsigned_abs d) (unsigned_abs q) (unsigned_abs x) (sym (unsigned_abs-mul d q) ∙ ap unsigned_abs e))
 
 pub zero_quotient : (d : ℤ) → int_div (pos 0) d ≡ pos 0
 zero_quotient (pos k) = ap pos (zero-div k)

@@ -5,7 +5,7 @@ ghost use Rattle.std.proofs.Common.{rules};
 use crate::Number;
 
 // A remainder by 2: odd is 1.
-#[derive(Clone, Copy)]
+#[derive(Clone, Copy, PartialEq, Eq, Debug)]
 pub struct Parity {
     pub odd: bool,
 }
@@ -50,7 +50,7 @@ impl Number for Parity {
     }
 
     fn written(self) -> i32 {
-        if self.odd { 1 } else { 0 }
+        i32::from(self.odd)
     }
 
     fn lowest(c: Parity, p: Parity) -> (Parity, Parity) {

@@ -1,4 +1,4 @@
-ghost use Rattle.std.specs.Prelude.{◌≡◌, ◌≤◌, ◌-ℤ◌, ◌*ℤ◌, unsigned_abs};
+ghost use Rattle.std.specs.Prelude.{◌≡◌, ◌≤◌, ◌-ℤ◌, ◌*ℤ◌, true, MatchOption, unsigned_abs};
 ghost use Rattle.kinds.specs.Kinds.{wholes};
 ghost use Rattle.kinds.specs.Wholes.{wholes_lawful};
 ghost use Rattle.std.proofs.Common.{rules};
@@ -10,17 +10,28 @@ use crate::divisor::gcd;
 const LIMIT: u64 = 1000000;
 
 // A whole number within the limit.
-#[derive(Clone, Copy)]
+#[derive(Clone, Copy, PartialEq, Eq, Debug)]
 pub struct Whole {
     n: i32,
     ghost small: { unsigned_abs n ≤ 1000000 },
 }
 
 // A difference of two products of such numbers, or what division makes of one.
-#[derive(Clone, Copy)]
+#[derive(Clone, Copy, PartialEq, Eq, Debug)]
 pub struct Combination {
     n: i64,
     ghost small: { unsigned_abs n ≤ 2000000000000 },
+}
+
+// The number, or nothing past the limit.
+fn within_limit(n: i64) -> Option<Whole>
+    ensures { MatchOption result (wholes.past n ≡ true) (λ x. x.n ≡ n) }
+{
+    if n.unsigned_abs() <= LIMIT {
+        Some(Whole { n: n as i32 })
+    } else {
+        None
+    }
 }
 
 // a x less c y.
@@ -67,11 +78,7 @@ impl Number for Whole {
     }
 
     fn counted(n: i64) -> Option<Whole> {
-        if n.unsigned_abs() <= LIMIT {
-            Some(Whole { n: n as i32 })
-        } else {
-            None
-        }
+        within_limit(n)
     }
 
     fn written(self) -> i32 {
@@ -112,10 +119,6 @@ impl Number for Whole {
     }
 
     fn narrowed(a: Combination) -> Option<Whole> {
-        if a.n.unsigned_abs() <= LIMIT {
-            Some(Whole { n: a.n as i32 })
-        } else {
-            None
-        }
+        within_limit(a.n)
     }
 }

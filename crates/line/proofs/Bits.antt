@@ -1,9 +1,9 @@
 -- The words of the entering bits.
-use Rattle.std.proofs.Common.{◌≡◌, ℕ, suc, ◌+◌, ◌-◌, ◌*◌, ◌^◌, ◌<◌, ◌≤◌, Bool, true, false, cond, eqb, List, [], ◌∷◌, ◌++◌, length, get_or, drop, count_by, sym, refl, ap, ◌∙◌, ⊎_elim, arith, pow_mono, Option, Some, None}
+use Rattle.std.proofs.Common.{◌≡◌, ℕ, suc, ◌*◌, ◌^◌, ◌<◌, ◌≤◌, Bool, true, false, cond, eqb, List, [], ◌∷◌, ◌++◌, length, get_or, count_by, refl, ap, ◌∙◌, ⊎_elim, arith, pow_mono, Option, Some, None}
 use native.Mathlib.Nat.{pow-succ'}
 use Rattle.std.proofs.lemmas.Bool.{cases_lt}
-use Rattle.std.proofs.lemmas.List.{at_drop_more, length-append, get_or_past}
-use Rattle.std.proofs.lemmas.List.Sums.{sum_by-cons, sum_by-take-drop}
+use Rattle.std.proofs.lemmas.List.{length-append, get_or_past}
+use Rattle.std.proofs.lemmas.List.Sums.{sum_by-cons, sum_by-append}
 use Rattle.sheet.specs.Nodes.{is_bit_of}
 use Rattle.sheet.proofs.Counting.{byte_le}
 use Rattle.line.specs.Words.{Node, Free, Belt, Gate, Sensor, Flop, Room, Item, Bit}
@@ -35,23 +35,19 @@ module _ (ws : List Bool) where
   word_lt (e ∷ es) = let two : 2 ^ suc (length es) ≡ 2 * 2 ^ length es = pow-succ' 2 (length es) in omega (arith, word_lt es, byte_le (get_or ws e false), two)
 
   -- at most four bits
-  pub word_small : (ns : List Node) (b i : ℕ) → count_by (is_bit_of b) ns ≤ 4 → word_of ws (bits_of b (drop i ns)) < 16
-  word_small ns b i h =
-      let few : length (bits_of b (drop i ns)) ≤ 4 = omega (arith, length_bits b (drop i ns), sum_by-take-drop (λ x. cond (is_bit_of b x) 1 0) ns i) in
-      let p : 2 ^ length (bits_of b (drop i ns)) ≤ 2 ^ 4 = pow_mono few in
-      omega (arith, word_lt (bits_of b (drop i ns)))
+  pub word_small : (ns front tail : List Node) (b : ℕ) → ns ≡ front ++ tail → count_by (is_bit_of b) ns ≤ 4 → word_of ws (bits_of b tail) < 16
+  word_small ns front tail b e h =
+      let few : length (bits_of b tail) ≤ 4 = omega (arith, length_bits b tail, ap (count_by (is_bit_of b)) e, sum_by-append (λ x. cond (is_bit_of b x) 1 0) front tail) in
+      let p : 2 ^ length (bits_of b tail) ≤ 2 ^ 4 = pow_mono few in
+      omega (arith, word_lt (bits_of b tail))
 
   with_bit_lem : (o : Option ℕ) (es : List ℕ) → with_bit ws o (word_of ws es) ≡ word_of ws (listed o ++ es)
   with_bit_lem None es = refl
   with_bit_lem (Some e) es = refl
 
-  -- one line more, from the last line on
-  pub word_on : (ns : List Node) (b i w w' : ℕ) → 0 < i → i ≤ length ns → w ≡ word_of ws (bits_of b (drop i ns)) → w' ≡ with_bit ws (entering_of b (get_or ns (i - 1) (Free Sensor))) w → w' ≡ word_of ws (bits_of b (drop (i - 1) ns))
-  word_on ns b i w w' p l e more =
-      let back : i - 1 + 1 ≡ i = omega arith in
-      let x = get_or ns (i - 1) (Free Sensor) in
-      more ∙ ap (with_bit ws (entering_of b x)) e ∙ with_bit_lem (entering_of b x) (bits_of b (drop i ns))
-      ∙ sym (ap (word_of ws) (at_drop_more (bits_of b) ns (i - 1) (Free Sensor) (omega arith) ∙ ap (λ k. listed (entering_of b x) ++ bits_of b (drop k ns)) back))
+  -- one line more in front
+  pub word_on : (x : Node) (tail : List Node) (b w w' : ℕ) → w ≡ word_of ws (bits_of b tail) → w' ≡ with_bit ws (entering_of b x) w → w' ≡ word_of ws (bits_of b (x ∷ tail))
+  word_on x tail b w w' e more = more ∙ ap (with_bit ws (entering_of b x)) e ∙ with_bit_lem (entering_of b x) (bits_of b tail)
 
 -- every place of a table whose first 32 places are small
 pub small_places : (words : List ℕ) → length words ≡ 32 → ((b : ℕ) → b < 32 → get_or words b 0 < 16) → (b : ℕ) → get_or words b 0 < 16

@@ -1,7 +1,13 @@
 -- A table that is filled with what some lines tell, line by line.
-use Rattle.std.proofs.Common.{◌≡◌, ℕ, ◌+◌, ◌<◌, ◌≤◌, Bool, false, cond, List, [], ◌∷◌, ◌++◌, map, length, get_or, take, drop, set, count_by, sym, refl, ap, ◌∙◌, arith, length-set, Option, Some, None}
-use Rattle.std.specs.List.{flat_map}
-use Rattle.std.proofs.lemmas.List.{at_drop_more, at_drop_all, take_more_set, append_assoc, append-nil, length-append, length-take-le, length-map}
+use Rattle.std.proofs.Common.{◌≡◌, ℕ, ◌+◌, ◌<◌, Bool, false, cond, List, [], ◌∷◌, ◌++◌, map, length, get_or, take, set, count_by, sym, refl, ap, ◌∙◌, zero-add, arith, Option, Some, None}
+use Rattle.std.specs.List.{filter_map, cons_option, enumerate_from}
+use Rattle.std.specs.declared.iter.Enumerate.{Enumerate}
+use Rattle.std.specs.Iterator.{Yields}
+use Rattle.std.specs.Iterator.Adapters.{enumerate_source, enumerate_count, enumerate_steps}
+use Rattle.std.proofs.lemmas.Iterator.{YieldsList}
+use Rattle.std.proofs.lemmas.Iterator.Consumers.{YieldsList-from_enumerate, YieldsList-turn, YieldsList-end}
+use Rattle.std.proofs.lemmas.List.{take_more_set, length-append, length-map, map-append, map-id}
+use Rattle.std.proofs.lemmas.List.FromFn.{length-enumerate_from, get_or-enumerate_from}
 use Rattle.std.proofs.lemmas.List.Sums.{sum_by-cons}
 use Rattle.sheet.specs.declared.class.Class.TheVariants as Of
 use Rattle.sheet.specs.Nodes.{is_belt, is_of, count_of, belts_of}
@@ -9,46 +15,42 @@ use Rattle.line.specs.Words.{Node, Free, Belt, Gate, Sensor, Flop, Room, Item, B
 use Rattle.line.specs.Parts.{listed, driver_of, drivers_of, offer_and_take}
 use Rattle.line.specs.Moving.{value_of, next_of}
 
--- what lines tell, as a list
-abbrev pub told : {X : Type 0} → (Node → Option X) → List Node → List X
-told f ns = flat_map (λ n. listed (f n)) ns
+-- the places of a table up to the last number yielded hold the values yielded
+abbrev pub Collected : {X : Type 0} → List X → List (ℕ × X) → Type 0
+Collected table ps = take (length ps) table ≡ map (λ p. p.1) ps
 
--- the first k of the table are what the first i lines tell
-abbrev pub Collected : {X : Type 0} → (Node → Option X) → List Node → ℕ → List X → ℕ → Type 0
-Collected f ns i table k = (k ≤ length table) × (take k table ++ told f (drop i ns) ≡ told f ns)
+-- one value more, in the next place
+pub collected_one : {X : Type 0} (table : List X) (ps : List (ℕ × X)) (k : ℕ) (v : X) → k ≡ length ps → length ps < length table → Collected table ps → Collected (set table k v) (ps ++ (k, v) ∷ [])
+collected_one {X} table ps k v e l known =
+    let n = length ps in
+    ap (λ m. take m (set table k v)) (length-append ps ((k, v) ∷ [])) ∙ ap (λ m. take (n + 1) (set table m v)) e ∙ take_more_set table n v l
+    ∙ ap (λ us. us ++ v ∷ []) known ∙ sym (map-append (λ (p : ℕ × X). p.1) ps ((k, v) ∷ []))
 
-module _ {X : Type 0} (f : Node → Option X) (ns : List Node) (i : ℕ) (table : List X) (k : ℕ) (known : Collected f ns i table k) where
-  module _ (h : i < length ns) where
-    here : told f (drop i ns) ≡ listed (f (get_or ns i (Free Sensor))) ++ told f (drop (i + 1) ns)
-    here = at_drop_more (told f) ns i (Free Sensor) h
+values_are : {X : Type 0} (n : ℕ) (xs : List X) → map (λ p. p.1) (enumerate_from n xs) ≡ xs
+values_are n [] = refl
+values_are n (x ∷ xs) = ap (λ us. x ∷ us) (values_are (n + 1) xs)
 
-    module _ (v : X) (e : f (get_or ns i (Free Sensor)) ≡ Some v) where
-      one : told f (drop i ns) ≡ v ∷ told f (drop (i + 1) ns)
-      one = here ∙ ap (λ o. listed o ++ told f (drop (i + 1) ns)) e
+-- a loop over numbered values
+module _ {S X : Type 0} {steps : S → Option X → S → Type 0} (s t : Enumerate S) (ps : List (ℕ × X)) (y : Yields (enumerate_steps steps) s ps t)
+    (all : List X) (road : YieldsList steps (λ y. y) (enumerate_source s) all) (zeroth : enumerate_count s ≡ 0) where
+  numbers : YieldsList {B = ℕ × X} (enumerate_steps steps) (λ p. (p.0, p.1)) s (enumerate_from 0 all)
+  numbers = YieldsList-from_enumerate road zeroth
 
-      -- there is a place for one more
-      pub place_left : k < length (told f ns)
-      place_left = omega (arith, ap length known.1, length-append (take k table) (told f (drop i ns)), length-take-le k table known.0, ap length one)
+  -- in a turn, the number is that of the values before, and there is one value more
+  pub numbered_turn : (r : Option (ℕ × X)) (u : Enumerate S) (k : ℕ) (v : X) → r ≡ Some (k, v) → enumerate_steps steps t r u → (k ≡ length ps) × (length ps < length all)
+  numbered_turn r u k v is p =
+      let m = YieldsList-turn (numbers) ps t y r u (k, v) is p in
+      let l : length ps < length all = omega (arith, m.0, length-enumerate_from 0 all) in
+      (ap (λ q. q.0) (m.1 ∙ get_or-enumerate_from 0 all (length ps) (k, v) l) ∙ zero-add (length ps), l)
 
-      pub collected_one : k < length table → Collected f ns (i + 1) (set table k v) (k + 1)
-      collected_one l = (
-        omega (arith, length-set table k v),
-        ap (λ us. us ++ told f (drop (i + 1) ns)) (take_more_set table k v l) ∙ append_assoc (take k table) (v ∷ []) (told f (drop (i + 1) ns))
-            ∙ ap (λ us. take k table ++ us) (sym one) ∙ known.1,
-      )
-
-    pub collected_none : f (get_or ns i (Free Sensor)) ≡ None → Collected f ns (i + 1) table k
-    collected_none e = (known.0, ap (λ us. take k table ++ us) (sym (here ∙ ap (λ o. listed o ++ told f (drop (i + 1) ns)) e)) ∙ known.1)
-
-  module _ (h : length ns ≤ i) where
-    pub all_collected : take k table ≡ told f ns
-    all_collected = sym (append-nil (take k table)) ∙ ap (λ us. take k table ++ us) (sym (at_drop_all (told f) ns i h)) ∙ known.1
-
-    pub all_counted : k ≡ length (told f ns)
-    all_counted = sym (length-take-le k table known.0) ∙ ap length all_collected
+  -- at the end all values are yielded
+  pub numbered_end : (r : Option (ℕ × X)) (u : Enumerate S) → r ≡ None → enumerate_steps steps t r u → (map (λ p. p.1) ps ≡ all) × (length ps ≡ length all)
+  numbered_end r u is p =
+      let m = YieldsList-end (numbers) ps t y r u is p in
+      (ap (map (λ (q : ℕ × X). q.1)) (sym (map-id ps) ∙ m.0) ∙ values_are 0 all, m.1 ∙ length-enumerate_from 0 all)
 
 -- the belts' wires, as lines tell them
-pub told_belts : (ns : List Node) → told offer_and_take ns ≡ belts_of ns
+pub told_belts : (ns : List Node) → filter_map offer_and_take ns ≡ belts_of ns
 told_belts [] = refl
 told_belts (Free s ∷ ns) = told_belts ns
 told_belts (Belt o t ∷ ns) = ap (λ bs. (o, t) ∷ bs) (told_belts ns)
@@ -62,11 +64,11 @@ length_belts (Gate g ∷ ns) = omega (arith, length_belts ns, sum_by-cons (λ n.
 
 -- the flops' next values, as lines tell them
 module _ (ws : List Bool) where
-  pub told_flops : (ns : List Node) → told (next_of ws) ns ≡ map (λ d. get_or ws d false) (drivers_of ns)
+  pub told_flops : (ns : List Node) → filter_map (next_of ws) ns ≡ map (λ d. get_or ws d false) (drivers_of ns)
   told_flops [] = refl
   told_flops (n ∷ ns) = by (driver_of n) (drivers_of ns) _ (told_flops ns)
     where
-      by : (o : Option ℕ) (ds : List ℕ) (vs : List Bool) → vs ≡ map (λ d. get_or ws d false) ds → listed (value_of ws o) ++ vs ≡ map (λ d. get_or ws d false) (listed o ++ ds)
+      by : (o : Option ℕ) (ds : List ℕ) (vs : List Bool) → vs ≡ map (λ d. get_or ws d false) ds → cons_option (value_of ws o) vs ≡ map (λ d. get_or ws d false) (listed o ++ ds)
       by None ds vs e = e
       by (Some d) ds vs e = ap (λ us. get_or ws d false ∷ us) e
 
@@ -84,5 +86,5 @@ length_drivers (Free (Bit b e) ∷ ns) = omega (arith, length_drivers ns, sum_by
 length_drivers (Belt o t ∷ ns) = omega (arith, length_drivers ns, sum_by-cons is_flop (Belt o t) ns)
 length_drivers (Gate g ∷ ns) = omega (arith, length_drivers ns, sum_by-cons is_flop (Gate g) ns)
 
-pub length_flops : (ws : List Bool) (ns : List Node) → length (told (next_of ws) ns) ≡ count_of Of.Flop ns
+pub length_flops : (ws : List Bool) (ns : List Node) → length (filter_map (next_of ws) ns) ≡ count_of Of.Flop ns
 length_flops ws ns = ap length (told_flops ws ns) ∙ length-map (drivers_of ns) (λ d. get_or ws d false) ∙ length_drivers ns

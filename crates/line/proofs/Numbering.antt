@@ -1,8 +1,8 @@
 -- The running numbers, line by line, and the free wires' values by them.
 use Rattle.std.proofs.Common.{◌≡◌, ℕ, zero, suc, ◌+◌, ◌<◌, ◌≤◌, Bool, true, false, cond, List, [], ◌∷◌, ◌++◌, length, get_or, take, count_by, sym, refl, ap, ◌∙◌, subst, ⊎_elim, arith}
 use Rattle.std.proofs.lemmas.Bool.{cases_lt, false≢true}
-use Rattle.std.proofs.lemmas.List.{append-nil, append_assoc, take_more, get_or_past, length-take-le}
-use Rattle.std.proofs.lemmas.List.Sums.{sum_by-cons, count_by-le-length}
+use Rattle.std.proofs.lemmas.List.{append-nil, append_assoc, take_more, get_or_past}
+use Rattle.std.proofs.lemmas.List.Sums.{sum_by-cons}
 use Rattle.sheet.specs.declared.class.Class.TheVariants as Of
 use Rattle.sheet.specs.Nodes.{is_free, is_of, is_bit_of}
 use Rattle.sheet.specs.Wires.{bit, node_value}
@@ -26,18 +26,6 @@ module _ (ns : List Node) (i : ℕ) (n : Numbers) (h : i < length ns) (known : N
         flops = a.flops ∙ ap (λ k. k + bit (is_of Of.Flop x)) known.flops ∙ sym (count_push (is_of Of.Flop) before x);
         bits = λ b l. a.bits b l ∙ ap (λ k. k + bit (is_bit_of b x)) (known.bits b l) ∙ sym (count_push (is_bit_of b) before x);
       })
-
-  few : (p : Node → Bool) → count_by p (take i ns) ≤ i
-  few p = omega (arith, count_by-le-length p (take i ns), length-take-le i ns (omega arith))
-
-  pub sensors_few : n.sensors ≤ i
-  sensors_few = omega (arith, known.sensors, few (is_of Of.Sensor))
-
-  pub flops_few : n.flops ≤ i
-  flops_few = omega (arith, known.flops, few (is_of Of.Flop))
-
-  pub bits_few : (b : ℕ) → b < 32 → get_or n.bits b 0 ≤ i
-  bits_few b l = omega (arith, known.bits b l, few (is_bit_of b))
 
 module _ (bank : List Model) (flops : List Bool) (sensors : List ℕ) where
   past_bit : (k b : ℕ) → length bank ≤ b → head_bit k (head_of (numbered bank b)) ≡ false

@@ -1,6 +1,6 @@
 -- What the rules of a sheet say of its belts and its flops.
 use Rattle.std.proofs.Common.{◌≡◌, ℕ, zero, suc, ◌+◌, ◌<◌, ◌≤◌, Bool, true, false, cond, not, ◌||◌, eqb, ltb, leb, List, [], ◌∷◌, length, get_or, take, count_by, refl, ap, ◌∙◌, ⊎_elim, arith}
-use Rattle.std.proofs.lemmas.Bool.{cases_lt, and_parts, ltb-true, leb-true, eqb-true, ne_eqb}
+use Rattle.std.proofs.lemmas.Bool.{cases_lt, and_parts, ltb-true, leb-true, ne_eqb}
 use Rattle.std.proofs.lemmas.List.Sums.{sum_by-cons}
 use Rattle.sheet.specs.declared.class.Class.TheVariants as Of
 use Rattle.sheet.specs.Nodes.{is_belt, is_free, is_room_of, is_item_of, is_bit_of, is_of, count_of, wire_at}
@@ -61,12 +61,6 @@ module _ (ns : List Node) (rules : Lawful ns) where
       let l = belt_line ns b h in
       let fits : (not (is_belt (get_or ns l.line (Free Sensor))) || belt_fits ns (count_by is_belt (take l.line ns))) ≡ true = rules.complete l.line l.within in
       rw (l.belt, l.number) at fits
-
-  pub one_room : (b : ℕ) → b < count_by is_belt ns → count_by (is_room_of b) ns ≡ 1
-  one_room b h = eqb-true _ _ (and_parts (eqb (count_by (is_room_of b) ns) 1) _ (belt_fits_lem b h)).0
-
-  pub one_item : (b : ℕ) → b < count_by is_belt ns → count_by (is_item_of b) ns ≡ 1
-  one_item b h = eqb-true _ _ (and_parts (eqb (count_by (is_item_of b) ns) 1) _ (and_parts (eqb (count_by (is_room_of b) ns) 1) _ (belt_fits_lem b h)).1).0
 
   -- any number has at most four d lines; past the last belt there is none
   pub few_bits : (b : ℕ) → count_by (is_bit_of b) ns ≤ 4

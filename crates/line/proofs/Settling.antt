@@ -1,7 +1,7 @@
 -- The wires settled so far.
-use Rattle.std.proofs.Common.{◌≡◌, ℕ, ◌+◌, ◌-◌, ◌<◌, Bool, List, [], ◌∷◌, ◌++◌, length, get_or, take, drop, set, count_by, sym, ap, ◌∙◌, arith}
+use Rattle.std.proofs.Common.{◌≡◌, ℕ, ◌+◌, ◌-◌, ◌<◌, Bool, List, [], ◌∷◌, ◌++◌, length, get_or, take, drop, set, count_by, sym, ap, ◌∙◌}
 use native.Mathlib.Nat.{sub-zero}
-use Rattle.std.proofs.lemmas.List.{at_drop_more, at_drop_all, take_more, take_more_set}
+use Rattle.std.proofs.lemmas.List.{at_drop_more, take_more, take_more_set}
 use Rattle.sheet.specs.Nodes.{is_free}
 use Rattle.sheet.specs.Wires.{bit, node_value, settled_from, settled}
 use Rattle.sheet.proofs.Counting.{count_push}
@@ -21,6 +21,3 @@ module _ (row : List Bool) (ns : List Node) (i : ℕ) (ws : List Bool) where
       ap (λ m. settled_from row m (take (i + 1) (set ws i v)) (drop (i + 1) ns)) count
       ∙ ap (λ us. settled_from row (k + bit (is_free x)) us (drop (i + 1) ns)) (take_more_set ws i v l ∙ ap (λ u. take i ws ++ u ∷ []) value)
       ∙ sym (at_drop_more (settled_from row k (take i ws)) ns i (Free Sensor) h) ∙ known
-
-  pub all_settled : i ≡ length ns → Settled row ns i ws → take (length ns) ws ≡ settled ns row
-  all_settled e known = ap (λ m. take m ws) (sym e) ∙ sym (at_drop_all (settled_from row (count_by is_free (take i ns)) (take i ws)) ns i (omega arith)) ∙ known

@@ -1,6 +1,7 @@
 -- A line over a bank: what mounting, ticking, clearing and reading do.
 use Rattle.std.specs.Prelude.{ℕ, zero, suc, ◌+◌, ◌*◌, ◌/◌, ◌%◌, ◌^◌, Bool, true, false, cond, not, ◌&&◌, ◌||◌, eqb, ltb, List, [], ◌∷◌, ◌++◌, map, length, get_or, drop, replicate, count_by, Option, Some, None, Result, Ok, Err}
 use Rattle.std.specs.Option.{is_some}
+use Rattle.std.specs.List.{list_any}
 use Rattle.line.specs.Words.{Node, Free, Belt, Gate, Source, Sensor, Flop, Room, Item, Bit, Fault, Model}
 use Rattle.sheet.specs.declared.fault.Refusal.TheVariants.{BeltsDiffer, NarrowBelt, LadenBelt, NoSheet, WrongSensors, ShortEvents}
 use Rattle.sheet.specs.declared.class.Class.TheVariants as Of
@@ -143,16 +144,11 @@ ticked s sensors =
     let bank = each (λ b. moved (enters_now s sensors b) (leaves_now s sensors b) (word_of wires (bits_of b s.sheet))) (belt_count s.sheet) s.bank in
     record { bank = bank; mounted = s.mounted; sheet = s.sheet; flops = map (λ d. get_or wires d false) (drivers_of s.sheet) }
 
--- whether one of a list passes a test
-abbrev pub some : {A : Type 0} → (A → Bool) → List A → Bool
-some p [] = false
-some p (x ∷ xs) = p x || some p xs
-
 -- a sheet, one byte of 0 or 1 for each sensor, and two bytes of event memory for each belt
 abbrev pub tick_test : State → List ℕ → ℕ → Result (Unit {0}) Fault
 tick_test s sensors room =
     refuse_if (not s.mounted) NoSheet 0
-    (refuse_if (not (eqb (length sensors) (count_of Of.Sensor s.sheet)) || some (ltb 1) sensors) WrongSensors 0
+    (refuse_if (not (eqb (length sensors) (count_of Of.Sensor s.sheet)) || list_any (ltb 1) sensors) WrongSensors 0
     (refuse_if (ltb room (2 * belt_count s.sheet)) ShortEvents 0 (Ok tt)))
 
 -- what an accepted tick answers and does: it writes two bytes for each belt, entered and left, later bytes stay, and it

@@ -26,8 +26,9 @@ abbrev pub given_up : Bool → ℕ → List Model → List Model
 given_up leave b bank = cond leave (altered taking b bank) bank
 
 -- a bank whose belt b takes in a word if one enters
-abbrev pub taken_in : Bool → ℕ → ℕ → List Model → List Model
-taken_in enter w b bank = cond enter (altered (putting w) b bank) bank
+abbrev pub taken_in : Option ℕ → ℕ → List Model → List Model
+taken_in None b bank = bank
+taken_in (Some w) b bank = altered (putting w) b bank
 
 -- a line whose belts are moved, in number order, by event bytes and wires
 abbrev pub belts_moved : State → List Bool → List ℕ → State

@@ -3,7 +3,8 @@ ghost use Rattle.sheet.specs.Nodes.{count_of};
 ghost use Rattle.sheet.specs.Rules.{Lawful};
 ghost use Rattle.sheet.specs.Views.{nodes_in};
 ghost use Rattle.sheet.specs.declared.class.Class.TheVariants as Of;
-ghost use Rattle.line.specs.Lines.{some, narrow, laden, mount_test};
+ghost use Rattle.std.specs.List.{list_any};
+ghost use Rattle.line.specs.Lines.{narrow, laden, mount_test};
 
 use crate::numbers::Numbers;
 use banks::bank::Bank;
@@ -13,19 +14,14 @@ use sheet::sheet::Sheet;
 
 // Whether a sensor byte is neither 0 nor 1.
 fn above_one(sensors: &[u8]) -> bool
-    ensures { result ≡ some (nat_lt 1) sensors.now }
+    ensures { result ≡ list_any (nat_lt 1) sensors.now }
 {
-    for byte in sensors {
-        if *byte > 1 {
-            return true;
-        }
-    }
-    false
+    sensors.iter().any(|byte| *byte > 1)
 }
 
 // Whether the sensor bytes differ in number from the sheet's sensors, or one is neither 0 nor 1.
 pub(crate) fn are_wrong(sheet: &Sheet, sensors: &[u8]) -> bool
-    ensures { result ≡ (not (length sensors.now == count_of Of.Sensor (nodes_in sheet.now)) || some (nat_lt 1) sensors.now) }
+    ensures { result ≡ (not (length sensors.now == count_of Of.Sensor (nodes_in sheet.now)) || list_any (nat_lt 1) sensors.now) }
 {
     sensors.len() != sheet.sensors() || above_one(sensors)
 }
@@ -36,24 +32,17 @@ fn narrow_belt<B: Bank>(bank: &B, nodes: &[Node]) -> Option<u16>
     ensures { result ≡ narrow nodes.now (B.belts bank.now) }
 {
     let numbers = Numbers::all(nodes);
-    for b in 0..bank.size() {
-        if usize::from(bank.width(b)) < numbers.bits_of(b) {
-            return Some(b as u16);
-        }
-    }
-    None
+    (0..bank.size() as u16).find(|b| {
+        let b = usize::from(*b);
+        usize::from(bank.width(b)) < numbers.bits_of(b)
+    })
 }
 
 // The lowest belt that holds a word.
 fn laden_belt<B: Bank>(bank: &B) -> Option<u16>
     ensures { result ≡ laden (B.belts bank.now) }
 {
-    for b in 0..bank.size() {
-        if bank.head(b).is_some() {
-            return Some(b as u16);
-        }
-    }
-    None
+    (0..bank.size() as u16).find(|b| bank.head(usize::from(*b)).is_some())
 }
 
 // Whether the sheet may be mounted over the bank.
@@ -61,22 +50,13 @@ pub(crate) fn check_mount<B: Bank>(bank: &B, sheet: &Sheet) -> Result<(), Fault>
     ensures { result ≡ mount_test (B.belts bank.now) (nodes_in sheet.now) }
 {
     if bank.size() != sheet.belts() {
-        return Err(Fault {
-            refusal: Refusal::BeltsDiffer,
-            place: 0,
-        });
+        return Err(Refusal::BeltsDiffer.into());
     }
     if let Some(place) = narrow_belt(bank, sheet.nodes()) {
-        return Err(Fault {
-            refusal: Refusal::NarrowBelt,
-            place,
-        });
+        return Err(Refusal::NarrowBelt.at(place));
     }
     match laden_belt(bank) {
-        Some(place) => Err(Fault {
-            refusal: Refusal::LadenBelt,
-            place,
-        }),
+        Some(place) => Err(Refusal::LadenBelt.at(place)),
         None => Ok(()),
     }
 }

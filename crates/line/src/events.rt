@@ -29,20 +29,12 @@ fn belt_wires(nodes: &[Node]) -> ([(u16, u16); 32], usize)
 {
     let mut belts = [(0, 0); 32];
     let mut n: usize = 0;
-    for node in nodes {
-        if let Some(pair) = offer_and_take(*node) {
-            belts[n] = pair;
-            n += 1;
-        }
+    let pairs = nodes.iter().filter_map(|node| offer_and_take(*node));
+    for (b, pair) in pairs.enumerate() {
+        belts[b] = pair;
+        n = b + 1;
     }
     (belts, n)
-}
-
-// The offer and take wires of belt `b`; wire 0 past the last belt.
-fn pair_at(pairs: &[(u16, u16)], b: usize) -> (u16, u16)
-    ensures { result ≡ slice_index_or pairs.now b (0, 0) }
-{
-    if b < pairs.len() { pairs[b] } else { (0, 0) }
 }
 
 // Whether a word enters belt `b` and whether one leaves it, by its offer and take wires and by what the bank tells now.
@@ -68,11 +60,10 @@ pub(crate) fn report<B: Bank>(
     ensures pair { result ≡ (how_many (enters nodes.now wires.now (λ c. roomy (numbered (B.belts bank.now) c))) (belt_count nodes.now), how_many (leaves nodes.now wires.now (λ c. is_some (head_of (numbered (B.belts bank.now) c)))) (belt_count nodes.now)) }
 {
     let (table, n) = belt_wires(nodes);
-    let pairs = &table[0..n];
     let mut entered: usize = 0;
     let mut left: usize = 0;
-    for b in 0..n {
-        let (enters, leaves) = belt_events(bank, wires, pair_at(pairs, b), b);
+    for (b, pair) in table[0..n].iter().enumerate() {
+        let (enters, leaves) = belt_events(bank, wires, *pair, b);
         events[2 * b] = u8::from(enters);
         events[2 * b + 1] = u8::from(leaves);
         entered += usize::from(enters);

@@ -1,5 +1,6 @@
 #![tactic(auto)]
 
+mod board;
 mod checks;
 pub mod clients;
 mod events;

@@ -1,13 +1,10 @@
-use sheet::sheet::Sheet;
+use crate::board::Board;
 
 mod calls;
 
-// A line: a bank of its own, which only its calls change, and the sheet that is mounted on it, if one is. The flops of
-// the sheet are the first of `flops`, in line order.
-#[derive(Drop)]
+// A line: a bank of its own, which only its calls change, and the board that is mounted on it, if one is.
+#[derive(Clone, Debug, Drop)]
 pub struct Line<B> {
     bank: B,
-    sheet: Sheet,
-    mounted: bool,
-    flops: [bool; 128],
+    board: Option<Board>,
 }

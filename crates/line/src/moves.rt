@@ -30,8 +30,8 @@ pub(crate) fn words(nodes: &[Node], wires: &[bool]) -> [u8; 32]
     ensures { (b : ℕ) → b < 32 → slice_index result b ≡ word_of wires.now (bits_of b nodes.now) }
 {
     let mut words = [0; 32];
-    for i in (0..nodes.len()).rev() {
-        enter_bit(&mut words, wires, nodes[i]);
+    for node in nodes.iter().rev() {
+        enter_bit(&mut words, wires, *node);
     }
     words
 }
@@ -46,20 +46,20 @@ fn give_up<B: Bank>(bank: &mut B, b: usize, leave: bool)
 }
 
 // Belt `b` takes in a word if one enters.
-fn take_in<B: Bank>(bank: &mut B, b: usize, enter: bool, word: u8)
-    ensures { B.belts bank.new ≡ taken_in enter word b (B.belts bank.old) }
+fn take_in<B: Bank>(bank: &mut B, b: usize, entering: Option<u8>)
+    ensures { B.belts bank.new ≡ taken_in entering b (B.belts bank.old) }
 {
-    if enter {
+    if let Some(word) = entering {
         let _ = bank.put(b, word);
     }
 }
 
 // Belt `b` gives up its head if it leaves, and then takes in a word if one enters.
-fn move_belt<B: Bank>(bank: &mut B, b: usize, enter: bool, leave: bool, word: u8)
-    ensures { B.belts bank.new ≡ taken_in enter word b (given_up leave b (B.belts bank.old)) }
+fn move_belt<B: Bank>(bank: &mut B, b: usize, leave: bool, entering: Option<u8>)
+    ensures { B.belts bank.new ≡ taken_in entering b (given_up leave b (B.belts bank.old)) }
 {
     give_up(bank, b, leave);
-    take_in(bank, b, enter, word);
+    take_in(bank, b, entering);
 }
 
 // Moves the first `n` belts, in number order, by the event bytes and the words.
@@ -67,14 +67,9 @@ pub(crate) fn advance<B: Bank>(bank: &mut B, n: usize, words: &[u8], events: &[u
     requires { (n ≤ length words.now) × (2 * n ≤ length events.now) }
     ensures { B.belts bank.new ≡ each_belt (λ b. moved (slice_index events.now (2 * b) == 1) (slice_index events.now (2 * b + 1) == 1) (slice_index words.now b)) n (B.belts bank.old) }
 {
-    for b in 0..n {
-        move_belt(
-            bank,
-            b,
-            events[2 * b] == 1,
-            events[2 * b + 1] == 1,
-            words[b],
-        );
+    for (b, event) in events.chunks_exact(2).take(n).enumerate() {
+        let entering = (event[0] == 1).then_some(words[b]);
+        move_belt(bank, b, event[1] == 1, entering);
     }
 }
 
@@ -94,12 +89,9 @@ pub(crate) fn next_flops(nodes: &[Node], wires: &[bool]) -> [bool; 128]
     ensures { take (count_of Of.Flop nodes.now) result ≡ map (λ d. slice_index_or wires.now d false) (drivers_of nodes.now) }
 {
     let mut flops = [false; 128];
-    let mut k: usize = 0;
-    for node in nodes {
-        if let Some(value) = next_value(wires, *node) {
-            flops[k] = value;
-            k += 1;
-        }
+    let values = nodes.iter().filter_map(|node| next_value(wires, *node));
+    for (k, value) in values.enumerate() {
+        flops[k] = value;
     }
     flops
 }

@@ -1,12 +1,11 @@
 -- What it says of a list that it fits, and that a page has room for its text.
 use Rattle.std.proofs.Common.{◌≡◌, ℕ, zero, suc, ◌+◌, ◌*◌, ◌≤◌, false, ◌||◌, List, [], ◌∷◌, ◌++◌, map, length, take, drop, ℤ, pos, negsuc, sym, refl, ap, ◌∙◌, add_comm, mul-suc, arith, take-add}
-use Rattle.std.specs.List.{range_with_len, flat_map, AllByRecursion}
+use Rattle.std.specs.List.{list_any, range_with_len, flat_map, AllByRecursion}
 use Rattle.std.specs.Fmt.{signed_decimal}
 use Rattle.std.proofs.lemmas.Bool.{or_parts, ltb-false}
 use Rattle.std.proofs.lemmas.List.{length-append, length-map, length-take}
 use Rattle.std.proofs.ByRecursion.{All-map, All-weaker}
 use Rattle.std.proofs.lemmas.Fmt.{length-decimal-le, length_signed_le}
-use Rattle.printing.specs.Words.{some}
 use Rattle.printing.specs.Pages.{gap}
 use Rattle.printing.specs.Printing.{line_of, rows_of, name_of, row_text, is_large, list_unfit}
 use Rattle.printing.proofs.Lines.{rest_of, line_rest}
@@ -21,22 +20,22 @@ pub record Fits (belts balances : ℕ) (weights : List ℤ) : Type 0 where
   pub full : belts * balances ≤ length weights
   pub small : AllByRecursion Small (rows_of belts balances weights)
 
-none_of : (xs : List ℤ) → some is_large xs ≡ false → Small xs
+none_of : (xs : List ℤ) → list_any is_large xs ≡ false → Small xs
 none_of [] e = tt
-none_of (x ∷ xs) e = let p = or_parts (is_large x) (some is_large xs) e in (p.0, none_of xs p.1)
+none_of (x ∷ xs) e = let p = or_parts (is_large x) (list_any is_large xs) e in (p.0, none_of xs p.1)
 
-some_parts : (xs ys : List ℤ) → some is_large (xs ++ ys) ≡ false → (some is_large xs ≡ false) × (some is_large ys ≡ false)
+some_parts : (xs ys : List ℤ) → list_any is_large (xs ++ ys) ≡ false → (list_any is_large xs ≡ false) × (list_any is_large ys ≡ false)
 some_parts [] ys e = (refl, e)
 some_parts (x ∷ xs) ys e =
-    let p = or_parts (is_large x) (some is_large (xs ++ ys)) e in
+    let p = or_parts (is_large x) (list_any is_large (xs ++ ys)) e in
     let q = some_parts xs ys p.1 in
-    (ap (λ b. b || some is_large xs) p.0 ∙ q.0, q.1)
+    (ap (λ b. b || list_any is_large xs) p.0 ∙ q.0, q.1)
 
-small_rows : (n k : ℕ) (ws : List ℤ) → some is_large (take (n * k) ws) ≡ false → AllByRecursion Small (rows_of n k ws)
+small_rows : (n k : ℕ) (ws : List ℤ) → list_any is_large (take (n * k) ws) ≡ false → AllByRecursion Small (rows_of n k ws)
 small_rows n zero ws e = tt
 small_rows n (suc k) ws e =
     let m = mul-suc n k ∙ add_comm (n * k) n in
-    let p = some_parts (take n ws) (take (n * k) (drop n ws)) (sym (ap (some is_large) (ap (λ j. take j ws) m ∙ take-add n (n * k) ws)) ∙ e) in
+    let p = some_parts (take n ws) (take (n * k) (drop n ws)) (sym (ap (list_any is_large) (ap (λ j. take j ws) m ∙ take-add n (n * k) ws)) ∙ e) in
     (none_of (take n ws) p.0, small_rows n k (drop n ws) p.1)
 
 pub fits : (belts balances : ℕ) (weights : List ℤ) → list_unfit belts balances weights ≡ false → Fits belts balances weights

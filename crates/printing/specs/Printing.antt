@@ -1,8 +1,8 @@
 -- The printed list and the refusal line: what the printing calls answer and write.
 use Rattle.std.specs.Prelude.{ℕ, zero, suc, ◌*◌, Bool, ◌||◌, ltb, List, [], ◌∷◌, ◌++◌, map, length, take, drop, codes, ℤ, nat_abs, Result, Ok}
-use Rattle.std.specs.List.{flat_map, range_with_len}
+use Rattle.std.specs.List.{flat_map, list_any, range_with_len}
 use Rattle.std.specs.Fmt.{decimal, signed_decimal}
-use Rattle.printing.specs.Words.{some, Fault, UnfitList, ShortText, Outcome, number, and_then, refuse_if, written}
+use Rattle.printing.specs.Words.{Fault, UnfitList, ShortText, Outcome, number, and_then, refuse_if, written}
 
 -- one blank between neighbours, and a line feed at the end
 abbrev pub line_of : List (List ℕ) → List ℕ
@@ -42,7 +42,7 @@ is_large w = ltb 1000000 (nat_abs w)
 -- over 32 belts or balances, too few weights, or a weight that is used and too large
 abbrev pub list_unfit : ℕ → ℕ → List ℤ → Bool
 list_unfit belts balances weights =
-    ltb 32 belts || (ltb 32 balances || (ltb (length weights) (belts * balances) || some is_large (take (belts * balances) weights)))
+    ltb 32 belts || (ltb 32 balances || (ltb (length weights) (belts * balances) || list_any is_large (take (belts * balances) weights)))
 
 -- bytes into text memory, and how many; refused if the memory is shorter
 abbrev pub in_text : Result (List ℕ) Fault → List ℕ → Outcome ℕ ℕ

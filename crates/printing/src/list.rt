@@ -1,10 +1,10 @@
 // The printed list.
-ghost use Rattle.std.specs.Prelude.{◌≡◌, ◌+◌, ◌*◌, ◌<◌, ◌≤◌, false, ◌++◌, map, length, take, IfOk};
-ghost use Rattle.std.specs.List.{range_with_len, flat_map};
+ghost use Rattle.std.specs.Prelude.{◌≡◌, ◌+◌, ◌*◌, ◌<◌, ◌≤◌, true, false, ◌++◌, map, length, take, IfOk, IfErr};
+ghost use Rattle.std.specs.List.{list_any, range_with_len, flat_map};
 ghost use Rattle.printing.specs.Pages.{text_on, gap};
 ghost use Rattle.printing.specs.Printing.{line_of, name_of, row_text, rows_of, list_text, is_large, list_unfit, print_list};
 ghost use Rattle.printing.specs.Reading.{reading, listed};
-ghost use Rattle.printing.specs.Words.{some};
+ghost use Rattle.printing.specs.Words.{UnfitList};
 
 use crate::page::Page;
 use sheet::fault::{Fault, Refusal};
@@ -22,14 +22,9 @@ fn is_large(weight: i32) -> bool
 
 // Whether some weight passes the limit.
 fn any_large(weights: &[i32]) -> bool
-    ensures { result ≡ some is_large weights.now }
+    ensures { result ≡ list_any is_large weights.now }
 {
-    for weight in weights {
-        if is_large(*weight) {
-            return true;
-        }
-    }
-    false
+    weights.iter().any(|weight| is_large(*weight))
 }
 
 // Whether a list is refused.
@@ -62,68 +57,85 @@ fn push_name(page: &mut Page, belt: usize)
     page.push_number(belt as u32);
 }
 
-// The line of the belts' names.
-fn push_names(page: &mut Page, belts: usize)
-    requires few { belts ≤ 32 }
-    requires room { length (text_on page.old) + length (line_of (map name_of (range_with_len 0 belts))) ≤ 9504 }
-    ensures { text_on page.new ≡ text_on page.old ++ line_of (map name_of (range_with_len 0 belts)) }
-{
-    for belt in 0..belts {
-        push_gap(page, belt);
-        push_name(page, belt);
-    }
-    page.end_line();
-}
-
 // The line of one balance.
 fn push_row(page: &mut Page, row: &[i32])
     requires { length (text_on page.old) + length (row_text row.now) ≤ 9504 }
     ensures { text_on page.new ≡ text_on page.old ++ row_text row.now }
 {
-    for i in 0..row.len() {
+    for (i, weight) in row.iter().enumerate() {
         push_gap(page, i);
-        page.push_weight(row[i]);
+        page.push_weight(*weight);
     }
     page.end_line();
 }
 
-// A line for each balance.
-fn push_rows(page: &mut Page, belts: usize, balances: usize, weights: &[i32])
-    requires full { belts * balances ≤ length weights.now }
-    requires room { length (text_on page.old) + length (flat_map row_text (rows_of belts balances weights.now)) ≤ 9504 }
-    ensures { text_on page.new ≡ text_on page.old ++ flat_map row_text (rows_of belts balances weights.now) }
-{
-    let mut rest = weights;
-    for _ in 0..balances {
-        let (row, more) = rest.split_at(belts);
-        push_row(page, row);
-        rest = more;
-    }
-}
-
-// The page with the whole list.
-fn list_page(belts: usize, balances: usize, weights: &[i32]) -> Page
-    requires { list_unfit belts balances weights.now ≡ false }
-    ensures { text_on result ≡ list_text belts balances weights.now }
-{
-    let mut page = Page::new();
-    push_names(&mut page, belts);
-    push_rows(&mut page, belts, balances, weights);
-    page
-}
-
-// Writes a list that fits.
-fn print_fit(
+// A list that fits: for each of `balances` balances the weights of `belts` belts, one after another.
+#[derive(Drop)]
+struct Listing<'a> {
     belts: usize,
     balances: usize,
-    weights: &[i32],
-    text: &mut [u8],
-) -> Result<usize, Fault>
-    requires { list_unfit belts balances weights.now ≡ false }
-    ensures exact { record { answer = result; memory = text.new } ≡ print_list belts balances weights.now text.old }
-    ensures readback { IfOk result (λ n. reading (take n text.new) ≡ listed belts balances weights.now) }
-{
-    list_page(belts, balances, weights).copy_to(text)
+    weights: &'a [i32],
+    ghost fit: { list_unfit belts balances weights.now ≡ false },
+}
+
+impl<'a> Listing<'a> {
+    // The list, if it fits.
+    fn fitting(belts: usize, balances: usize, weights: &'a [i32]) -> Result<Listing<'a>, Fault>
+        ensures fits { IfOk result (λ l. (l.belts ≡ belts) × (l.balances ≡ balances) × (l.weights.now ≡ weights.now)) }
+        ensures unfit { IfErr result (λ f. (f ≡ record { refusal = UnfitList; place = 0 }) × (list_unfit belts balances weights.now ≡ true)) }
+    {
+        if is_unfit(belts, balances, weights) {
+            return Err(Refusal::UnfitList.into());
+        }
+        Ok(Listing {
+            belts,
+            balances,
+            weights,
+        })
+    }
+
+    // The line of the belts' names.
+    fn push_names(&self, page: &mut Page)
+        requires { length (text_on page.old) + length (line_of (map name_of (range_with_len 0 self.now.belts))) ≤ 9504 }
+        ensures { text_on page.new ≡ text_on page.old ++ line_of (map name_of (range_with_len 0 self.now.belts)) }
+    {
+        for belt in 0..self.belts {
+            push_gap(page, belt);
+            push_name(page, belt);
+        }
+        page.end_line();
+    }
+
+    // A line for each balance.
+    fn push_rows(&self, page: &mut Page)
+        requires { length (text_on page.old) + length (flat_map row_text (rows_of self.now.belts self.now.balances self.now.weights.now)) ≤ 9504 }
+        ensures { text_on page.new ≡ text_on page.old ++ flat_map row_text (rows_of self.now.belts self.now.balances self.now.weights.now) }
+    {
+        let mut rest = self.weights;
+        for _ in 0..self.balances {
+            let (row, more) = rest.split_at(self.belts);
+            push_row(page, row);
+            rest = more;
+        }
+    }
+
+    // The page with the whole list.
+    fn page(&self) -> Page
+        ensures { text_on result ≡ list_text self.now.belts self.now.balances self.now.weights.now }
+    {
+        let mut page = Page::new();
+        self.push_names(&mut page);
+        self.push_rows(&mut page);
+        page
+    }
+
+    // Writes the list.
+    fn print(&self, text: &mut [u8]) -> Result<usize, Fault>
+        ensures exact { record { answer = result; memory = text.new } ≡ print_list self.now.belts self.now.balances self.now.weights.now text.old }
+        ensures readback { IfOk result (λ n. reading (take n text.new) ≡ listed self.now.belts self.now.balances self.now.weights.now) }
+    {
+        self.page().copy_to(text)
+    }
 }
 
 // Writes the list of the balances' weights into the first of the caller's bytes, and answers how many bytes it has: a line
@@ -138,11 +150,6 @@ pub fn print_list(
     ensures exact { record { answer = result; memory = text.new } ≡ print_list belts balances weights.now text.old }
     ensures readback { IfOk result (λ n. reading (take n text.new) ≡ listed belts balances weights.now) }
 {
-    if is_unfit(belts, balances, weights) {
-        return Err(Fault {
-            refusal: Refusal::UnfitList,
-            place: 0,
-        });
-    }
-    print_fit(belts, balances, weights, text)
+    let list = Listing::fitting(belts, balances, weights)?;
+    list.print(text)
 }

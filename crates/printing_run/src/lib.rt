@@ -73,22 +73,13 @@ mod tests {
     #[test]
     fn refusal_lines(rt: HostRuntime) {
         let mut text = [b'.'; 18];
-        let laden = Fault {
-            refusal: Refusal::LadenBelt,
-            place: 31,
-        };
+        let laden = Refusal::LadenBelt.at(31);
         assert_eq!(rt; told(print_refusal(laden, &mut text)), (0, 17));
         assert_eq!(rt; text, *b"refused 10 at 31\n.");
-        let values = Fault {
-            refusal: Refusal::WrongValues,
-            place: 639,
-        };
+        let values = Refusal::WrongValues.at(639);
         assert_eq!(rt; told(print_refusal(values, &mut text)), (0, 17));
         assert_eq!(rt; text, *b"refused 3 at 639\n.");
-        let unfit = Fault {
-            refusal: Refusal::UnfitText,
-            place: 0,
-        };
+        let unfit = Refusal::UnfitText.at(0);
         let mut short = [b'.'; 14];
         assert_eq!(rt; told(print_refusal(unfit, &mut short)), (23, 0));
         assert_eq!(rt; short, *b"..............");

@@ -1,15 +1,16 @@
 -- Two lines driven together: each ends and reports as by its own calls alone. Assumes nothing.
-use Rattle.std.proofs.Common.{◌≡◌, ℕ, suc, ◌+◌, ◌<◌, ◌≤◌, Bool, true, false, cond, not, List, [], ◌∷◌, ◌++◌, length, get_or, take, drop, set, sym, refl, ap, ◌∙◌, subst, ap₂, arith}
+use Rattle.std.proofs.Common.{◌≡◌, ℕ, suc, ◌+◌, ◌<◌, ◌≤◌, Bool, true, false, cond, List, [], ◌∷◌, ◌++◌, length, get_or, take, drop, set, sym, refl, ap, ◌∙◌, subst, ap₂, arith}
 use Rattle.std.proofs.lemmas.List.{length-take-le, take_at, take_more}
 use Rattle.sheet.specs.declared.sheet.Sheet.{Sheet}
 use Rattle.belts.specs.Belts.{Model}
 use Rattle.banks.specs.Banks.{numbered}
 use Rattle.line.specs.Lines.{State, new_line}
 use Rattle.runs.specs.declared.calls.Order.{Order}
+use Rattle.runs.specs.declared.calls.Order.TheVariants.{First, Second}
 use Rattle.runs.specs.declared.calls.Report.{Report}
 use Rattle.runs.specs.Runs.{performed, afterwards, reports}
 use Rattle.runs.specs.Laws.{Kept}
-use Rattle.runs.specs.Pairs.{is_for, calls_for, reports_for, obeyed, report_of, woven, Alone}
+use Rattle.runs.specs.Pairs.{call_of, is_for, calls_for, reports_for, obeyed, report_of, woven, Alone}
 use Rattle.runs.proofs.Law.{new_kept}
 use Rattle.runs.proofs.Driving.{logged}
 
@@ -18,7 +19,7 @@ module _ (sheets : List Sheet) where
   after_cons : (which : Bool) (s : State) (o : Order) (os : List Order) → afterwards sheets s (calls_for which (o ∷ os)) ≡ afterwards sheets (obeyed which sheets s o) (calls_for which os)
   after_cons which s o os = go (is_for which o)
     where
-      go : (b : Bool) → afterwards sheets s (cond b (o.call ∷ calls_for which os) (calls_for which os)) ≡ afterwards sheets (cond b (performed sheets s o.call).after s) (calls_for which os)
+      go : (b : Bool) → afterwards sheets s (cond b ((call_of o) ∷ calls_for which os) (calls_for which os)) ≡ afterwards sheets (cond b (performed sheets s (call_of o)).after s) (calls_for which os)
       go true = refl
       go false = refl
 
@@ -38,24 +39,19 @@ module _ (sheets : List Sheet) where
   length_woven one two (o ∷ os) = ap suc (length_woven (obeyed false sheets one o) (obeyed true sheets two o) os)
 
   -- each line's reports are those of its own calls
-  first_apart : (one two : State) (os : List Order) → reports_for false os (woven sheets one two os) ≡ reports sheets one (calls_for false os)
-  first_apart one two [] = refl
-  first_apart one two (o ∷ os) = go o.second (first_apart (obeyed false sheets one o) (obeyed true sheets two o) os)
+  apart : (which : Bool) (one two : State) (os : List Order) → reports_for which os (woven sheets one two os) ≡ reports sheets (cond which two one) (calls_for which os)
+  apart which one two [] = refl
+  apart which one two (First c ∷ os) = go which (apart which (performed sheets one c).after two os)
     where
-      go : (b : Bool) → reports_for false os (woven sheets (cond (not b) (performed sheets one o.call).after one) (cond b (performed sheets two o.call).after two) os) ≡ reports sheets (cond (not b) (performed sheets one o.call).after one) (calls_for false os)
-          → cond (not b) (cond b (performed sheets two o.call).report (performed sheets one o.call).report ∷ reports_for false os (woven sheets (cond (not b) (performed sheets one o.call).after one) (cond b (performed sheets two o.call).after two) os)) (reports_for false os (woven sheets (cond (not b) (performed sheets one o.call).after one) (cond b (performed sheets two o.call).after two) os))
-          ≡ reports sheets one (cond (not b) (o.call ∷ calls_for false os) (calls_for false os))
+      go : (b : Bool) → reports_for b os (woven sheets (performed sheets one c).after two os) ≡ reports sheets (cond b two (performed sheets one c).after) (calls_for b os)
+          → reports_for b (First c ∷ os) (woven sheets one two (First c ∷ os)) ≡ reports sheets (cond b two one) (calls_for b (First c ∷ os))
       go true e = e
-      go false e = ap (λ log. (performed sheets one o.call).report ∷ log) e
-
-  second_apart : (one two : State) (os : List Order) → reports_for true os (woven sheets one two os) ≡ reports sheets two (calls_for true os)
-  second_apart one two [] = refl
-  second_apart one two (o ∷ os) = go o.second (second_apart (obeyed false sheets one o) (obeyed true sheets two o) os)
+      go false e = ap (λ log. (performed sheets one c).report ∷ log) e
+  apart which one two (Second c ∷ os) = go which (apart which one (performed sheets two c).after os)
     where
-      go : (b : Bool) → reports_for true os (woven sheets (cond (not b) (performed sheets one o.call).after one) (cond b (performed sheets two o.call).after two) os) ≡ reports sheets (cond b (performed sheets two o.call).after two) (calls_for true os)
-          → cond b (cond b (performed sheets two o.call).report (performed sheets one o.call).report ∷ reports_for true os (woven sheets (cond (not b) (performed sheets one o.call).after one) (cond b (performed sheets two o.call).after two) os)) (reports_for true os (woven sheets (cond (not b) (performed sheets one o.call).after one) (cond b (performed sheets two o.call).after two) os))
-          ≡ reports sheets two (cond b (o.call ∷ calls_for true os) (calls_for true os))
-      go true e = ap (λ log. (performed sheets two o.call).report ∷ log) e
+      go : (b : Bool) → reports_for b os (woven sheets one (performed sheets two c).after os) ≡ reports sheets (cond b (performed sheets two c).after one) (calls_for b os)
+          → reports_for b (Second c ∷ os) (woven sheets one two (Second c ∷ os)) ≡ reports sheets (cond b two one) (calls_for b (Second c ∷ os))
+      go true e = ap (λ log. (performed sheets two c).report ∷ log) e
       go false e = e
 
   -- a turn of the loop that carries out the orders
@@ -93,9 +89,9 @@ module _ (sheets : List Sheet) where
     pub first_alone : ((b : ℕ) → (numbered first b).places ≤ 65535) → (end : State) → end ≡ afterwards sheets s (calls_for false (take n os)) → Alone sheets (new_line first) false (take n os) (take n log) end
     first_alone small end so =
         alone false first small (take n os) (take n log) end (so ∙ ap (λ z. afterwards sheets z (calls_for false (take n os))) new-first)
-        (ap (reports_for false (take n os)) front ∙ first_apart (new_line first) (new_line second) (take n os))
+        (ap (reports_for false (take n os)) front ∙ apart false (new_line first) (new_line second) (take n os))
 
     pub second_alone : ((b : ℕ) → (numbered second b).places ≤ 65535) → (end : State) → end ≡ afterwards sheets t (calls_for true (take n os)) → Alone sheets (new_line second) true (take n os) (take n log) end
     second_alone small end so =
         alone true second small (take n os) (take n log) end (so ∙ ap (λ z. afterwards sheets z (calls_for true (take n os))) new-second)
-        (ap (reports_for true (take n os)) front ∙ second_apart (new_line first) (new_line second) (take n os))
+        (ap (reports_for true (take n os)) front ∙ apart true (new_line first) (new_line second) (take n os))

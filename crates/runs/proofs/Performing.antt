@@ -1,21 +1,20 @@
 -- What one call comes to, from what its parts give. Assumes nothing.
-use Rattle.std.proofs.Common.{◌≡◌, ℕ, ◌-◌, ◌*◌, ◌<◌, ◌≤◌, min, not, ◌||◌, eqb, ltb, List, [], ◌++◌, map, length, get_or, take, drop, replicate, Ok, Err, Result, sym, refl, ap, ◌∙◌, ap₂, arith}
+use Rattle.std.proofs.Common.{◌≡◌, ℕ, ◌-◌, ◌*◌, min, not, ◌||◌, eqb, ltb, List, [], ◌++◌, length, take, drop, replicate, Ok, Err, Result, sym, refl, ap, ◌∙◌, ap₂, arith}
+use Rattle.std.specs.List.{list_any}
 use native.Mathlib.Nat.{sub-zero}
 use borrow.Rule.Slice.PartMut.{post_of}
-use Rattle.std.proofs.lemmas.List.{length-append, length-drop, length-map, get_or-map, get_or_past, length-replicate, take-replicate, drop-replicate}
+use Rattle.std.proofs.lemmas.List.{length-append, length-drop, length-replicate, take-replicate, drop-replicate}
 use Rattle.std.proofs.lemmas.Bool.{ltb-false}
 use Rattle.sheet.specs.declared.class.Class.TheVariants as Of
 use Rattle.sheet.specs.declared.fault.Fault.{Fault}
 use Rattle.sheet.specs.declared.fault.Refusal.TheVariants.{NoSheet, WrongSensors, ShortEvents}
-use Rattle.sheet.specs.declared.sheet.Sheet.{Sheet}
 use Rattle.sheet.specs.Nodes.{count_of}
-use Rattle.sheet.specs.Views.{nodes_in}
 use Rattle.line.specs.Parts.{belt_count}
-use Rattle.line.specs.Lines.{State, Step, some, enters_now, leaves_now, event_bytes, tick_test, tick_by, tick}
+use Rattle.line.specs.Lines.{State, Step, enters_now, leaves_now, event_bytes, tick_test, tick_by, tick}
 use Rattle.line.proofs.Bytes.{length_bytes}
 use Rattle.runs.specs.declared.calls.Answer.{Answer}
 use Rattle.runs.specs.declared.calls.Report.{Report}
-use Rattle.runs.specs.Runs.{sheet_at, blank, filled, answer_of, turn}
+use Rattle.runs.specs.Runs.{blank, filled, answer_of, turn}
 use Rattle.runs.proofs.Law.{passed_if}
 
 -- a call without event memory
@@ -34,7 +33,7 @@ tick_length s sensors memory = go (tick_test s sensors (length memory)) refl
     go (Ok u) e =
         let n = belt_count s.sheet in
         let one = passed_if (not s.mounted) NoSheet 0 _ e in
-        let two = passed_if (not (eqb (length sensors) (count_of Of.Sensor s.sheet)) || some (ltb 1) sensors) WrongSensors 0 _ one.1 in
+        let two = passed_if (not (eqb (length sensors) (count_of Of.Sensor s.sheet)) || list_any (ltb 1) sensors) WrongSensors 0 _ one.1 in
         let three = passed_if (ltb (length memory) (2 * n)) ShortEvents 0 _ two.1 in
         let enough = ltb-false (length memory) (2 * n) three.0 in
         let bytes = event_bytes (enters_now s sensors) (leaves_now s sensors) n in
@@ -52,10 +51,3 @@ ticked_in reply s sensors memory n a zeros last x after ez en ex es =
     let rest : post_of 0 (n - 0) zeros ≡ replicate (64 - length t.memory) 0 = ap₂ (λ (k : ℕ) (zs : List ℕ). drop k zs) (sub-zero n) ez ∙ drop-replicate n 64 0 ∙ ap (λ k. replicate (64 - k) 0) (sym size) in
     ap₂ (λ (y : Answer) (zs : List ℕ). record { report = record { answer = y; bytes = last ++ zs }; after = after }) ex rest
     ∙ ap (λ (z : Step (ℕ × ℕ)). record { report = record { answer = answer_of reply z.answer; bytes = z.memory ++ replicate (64 - length t.memory) 0 }; after = z.after }) (es ∙ ap (tick s sensors) front)
-
--- the sheet of a number
-pub sheet_there : (sheets : List Sheet) (k : ℕ) (x : Sheet) → k < length sheets → x ≡ get_or sheets k x → nodes_in x ≡ sheet_at sheets k
-sheet_there sheets k x h e = ap nodes_in e ∙ sym (get_or-map nodes_in sheets k x [] h)
-
-pub sheet_past : (sheets : List Sheet) (k : ℕ) → length sheets ≤ k → [] ≡ sheet_at sheets k
-sheet_past sheets k h = sym (get_or_past (map nodes_in sheets) k [] (omega (arith, length-map sheets nodes_in)))

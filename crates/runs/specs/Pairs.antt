@@ -4,19 +4,29 @@ use Rattle.sheet.specs.declared.sheet.Sheet.{Sheet}
 use Rattle.line.specs.Lines.{State}
 use Rattle.runs.specs.declared.calls.Call.{Call}
 use Rattle.runs.specs.declared.calls.Order.{Order}
+use Rattle.runs.specs.declared.calls.Order.TheVariants.{First, Second}
 use Rattle.runs.specs.declared.calls.Report.{Report}
 use Rattle.runs.specs.Runs.{performed, afterwards, reports}
 use Rattle.runs.specs.Laws.{Kept}
 
+-- whether an order is for the second line
+abbrev pub is_second : Order → Bool
+is_second (First c) = false
+is_second (Second c) = true
+
+abbrev pub call_of : Order → Call
+call_of (First c) = c
+call_of (Second c) = c
+
 -- whether an order is for one of the lines: the second, where `which` is true, or else the first
 abbrev pub is_for : Bool → Order → Bool
-is_for true o = o.second
-is_for false o = not o.second
+is_for true o = is_second o
+is_for false o = not (is_second o)
 
 -- the calls that orders have for one of the lines, in order
 abbrev pub calls_for : Bool → List Order → List Call
 calls_for which [] = []
-calls_for which (o ∷ os) = cond (is_for which o) (o.call ∷ calls_for which os) (calls_for which os)
+calls_for which (o ∷ os) = cond (is_for which o) (call_of o ∷ calls_for which os) (calls_for which os)
 
 -- the reports of those calls, in a log that has one report for each order
 abbrev pub reports_for : Bool → List Order → List Report → List Report
@@ -26,11 +36,11 @@ reports_for which (o ∷ os) (r ∷ log) = cond (is_for which o) (r ∷ reports_
 
 -- one of the lines after an order, which alters it if it is for it
 abbrev pub obeyed : Bool → List Sheet → State → Order → State
-obeyed which sheets s o = cond (is_for which o) (performed sheets s o.call).after s
+obeyed which sheets s o = cond (is_for which o) (performed sheets s (call_of o)).after s
 
 -- the report of an order, on the line that it is for
 abbrev pub report_of : List Sheet → State → State → Order → Report
-report_of sheets one two o = cond o.second (performed sheets two o.call).report (performed sheets one o.call).report
+report_of sheets one two o = cond (is_second o) (performed sheets two (call_of o)).report (performed sheets one (call_of o)).report
 
 -- the reports of orders, carried out one after another
 abbrev pub woven : List Sheet → State → State → List Order → List Report

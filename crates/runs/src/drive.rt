@@ -1,8 +1,7 @@
-ghost use Rattle.std.specs.Prelude.{◌≡◌, ◌<◌, ◌≤◌, min, ◌++◌, length, take, drop, slice_index_or, slice_set};
+ghost use Rattle.std.specs.Prelude.{◌≡◌, ◌≤◌, min, ◌++◌, length, take, drop};
 ghost use Rattle.line.specs.Lines.{new_line};
 ghost use Rattle.line.specs.Views.{view};
-ghost use Rattle.runs.specs.declared.calls.Call.TheVariants.{Mount};
-ghost use Rattle.runs.specs.Runs.{performed, afterwards, reports};
+ghost use Rattle.runs.specs.Runs.{afterwards, reports};
 ghost use Rattle.runs.specs.Laws.{Kept};
 
 use crate::calls::{Call, Report};
@@ -11,36 +10,15 @@ use banks::bank::Bank;
 use line::line::Line;
 use sheet::sheet::Sheet;
 
-// Makes call `i` and logs its report at place `i`.
-fn log_call<B: Bank>(
-    line: &mut Line<B>,
-    sheets: &[Sheet],
-    calls: &[Call],
-    log: &mut [Report],
-    i: usize,
-)
-    requires { (i < length calls.now) × (i < length log.old) }
-    ensures log { log.new ≡ slice_set log.old i (performed sheets.now (view B.belts line.old) (slice_index_or calls.now i (Mount 0))).report }
-    ensures line { view B.belts line.new ≡ (performed sheets.now (view B.belts line.old) (slice_index_or calls.now i (Mount 0))).after }
+// Makes the calls and logs the report of each. Of a newly made line the law holds then.
+fn log_calls<B: Bank>(line: &mut Line<B>, sheets: &[Sheet], calls: &[Call], log: &mut [Report])
+    requires { length calls.now ≤ length log.old }
+    ensures log { log.new ≡ reports sheets.now (view B.belts line.old) calls.now ++ drop (length calls.now) log.old }
+    ensures line { view B.belts line.new ≡ afterwards sheets.now (view B.belts line.old) calls.now }
+    ensures law { view B.belts line.old ≡ new_line (view B.belts line.old).bank → Kept (view B.belts line.new) (take (length calls.now) log.new) }
 {
-    log[i] = perform(line, sheets, calls[i]);
-}
-
-// Makes the first `done` calls and logs the report of each. Of a newly made line the law holds then.
-fn log_calls<B: Bank>(
-    line: &mut Line<B>,
-    sheets: &[Sheet],
-    calls: &[Call],
-    log: &mut [Report],
-    done: usize,
-)
-    requires { (done ≤ length calls.now) × (done ≤ length log.old) }
-    ensures log { log.new ≡ reports sheets.now (view B.belts line.old) (take done calls.now) ++ drop done log.old }
-    ensures line { view B.belts line.new ≡ afterwards sheets.now (view B.belts line.old) (take done calls.now) }
-    ensures law { view B.belts line.old ≡ new_line (view B.belts line.old).bank → Kept (view B.belts line.new) (take done log.new) }
-{
-    for i in 0..done {
-        log_call(line, sheets, calls, log, i);
+    for (i, call) in calls.iter().enumerate() {
+        log[i] = perform(line, sheets, *call);
     }
 }
 
@@ -58,7 +36,8 @@ pub fn drive<B: Bank>(
     ensures law { view B.belts line.old ≡ new_line (view B.belts line.old).bank → Kept (view B.belts line.new) (take result log.new) }
 {
     let done = calls.len().min(log.len());
-    log_calls(line, sheets, calls, log, done);
+    let (calls, _) = calls.split_at(done);
+    log_calls(line, sheets, calls, log);
     done
 }
 

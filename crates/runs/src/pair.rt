@@ -21,29 +21,27 @@ fn obey<A: Bank, C: Bank>(
     ensures first { view A.belts one.new ≡ obeyed false sheets.now (view A.belts one.old) order.entry }
     ensures second { view C.belts two.new ≡ obeyed true sheets.now (view C.belts two.old) order.entry }
 {
-    if order.second {
-        perform(two, sheets, order.call)
-    } else {
-        perform(one, sheets, order.call)
+    match order {
+        Order::First(call) => perform(one, sheets, call),
+        Order::Second(call) => perform(two, sheets, call),
     }
 }
 
-// Carries out the first `done` orders and logs the report of each.
+// Carries out the orders and logs the report of each.
 fn log_orders<A: Bank, C: Bank>(
     one: &mut Line<A>,
     two: &mut Line<C>,
     sheets: &[Sheet],
     orders: &[Order],
     log: &mut [Report],
-    done: usize,
 )
-    requires { (done ≤ length orders.now) × (done ≤ length log.old) }
-    ensures log { log.new ≡ woven sheets.now (view A.belts one.old) (view C.belts two.old) (take done orders.now) ++ drop done log.old }
-    ensures first { view A.belts one.new ≡ afterwards sheets.now (view A.belts one.old) (calls_for false (take done orders.now)) }
-    ensures second { view C.belts two.new ≡ afterwards sheets.now (view C.belts two.old) (calls_for true (take done orders.now)) }
+    requires { length orders.now ≤ length log.old }
+    ensures log { log.new ≡ woven sheets.now (view A.belts one.old) (view C.belts two.old) orders.now ++ drop (length orders.now) log.old }
+    ensures first { view A.belts one.new ≡ afterwards sheets.now (view A.belts one.old) (calls_for false orders.now) }
+    ensures second { view C.belts two.new ≡ afterwards sheets.now (view C.belts two.old) (calls_for true orders.now) }
 {
-    for i in 0..done {
-        log[i] = obey(one, two, sheets, orders[i]);
+    for (i, order) in orders.iter().enumerate() {
+        log[i] = obey(one, two, sheets, *order);
     }
 }
 
@@ -65,6 +63,7 @@ pub fn run_two<A: Bank, C: Bank>(
     let mut first = Line::new(one);
     let mut second = Line::new(two);
     let done = orders.len().min(log.len());
-    log_orders(&mut first, &mut second, sheets, orders, log, done);
+    let (orders, _) = orders.split_at(done);
+    log_orders(&mut first, &mut second, sheets, orders, log);
     ((first, second), done)
 }

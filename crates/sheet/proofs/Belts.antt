@@ -1,5 +1,5 @@
 -- The check of the belts, line by line.
-use Rattle.std.proofs.Common.{◌≡◌, ℕ, ◌+◌, ◌-◌, ◌<◌, Bool, true, false, cond, not, length, get_or, take, drop, Some, count_by, sym, ap, ◌∙◌, subst, arith}
+use Rattle.std.proofs.Common.{◌≡◌, ℕ, ◌+◌, ◌<◌, true, false, cond, not, length, get_or, take, drop, Some, count_by, sym, ap, ◌∙◌, arith}
 use Rattle.std.proofs.lemmas.List.Sums.{count_by_more_yes, count_by_more_no, sum_by-take-le}
 use Rattle.sheet.specs.declared.node.Node.{Node}
 use Rattle.sheet.specs.declared.node.Node.TheVariants.{Free}
@@ -7,46 +7,46 @@ use Rattle.sheet.specs.declared.node.Source.TheVariants.{Sensor}
 use Rattle.sheet.specs.declared.sheet.draft.Draft.{Draft}
 use Rattle.sheet.specs.Nodes.{is_belt}
 use Rattle.sheet.specs.Rules.{parts_fit, line_fits, lowest, unfit}
+use Rattle.sheet.specs.Drafts.{no_parts}
+use Rattle.sheet.specs.declared.parts.Part.TheVariants as Of
+use Rattle.sheet.specs.declared.sheet.tally.Parts.{Parts}
 use Rattle.sheet.specs.Views.{so_far}
 use Rattle.sheet.proofs.Lowest.{lowest_on, lowest_here}
-use Rattle.sheet.proofs.Drafting.{length_before, lent}
+use Rattle.sheet.proofs.Drafting.{length_before}
 
 -- what is known before line i, where belt number k comes next
 pub record Checked (d : Draft) (i k : ℕ) : Type 0 where
   pub numbered : k ≡ count_by is_belt (take i (so_far d))
   pub left : unfit (so_far d) ≡ lowest (λ j n. not (line_fits (so_far d) j n)) i (drop i (so_far d))
 
--- one line, as the code reads it
+-- one line
 module _ (d : Draft) (i k : ℕ) (h : i < d.len) (known : Checked d i k) where
-  abbrev pub lent_at : Node
-  lent_at = get_or (take (d.len - 0) d.nodes) i (Free Sensor)
-
   inside : i < length (so_far d)
   inside = omega (arith, length_before d)
 
-  read : (b : Bool) → is_belt lent_at ≡ b → is_belt (get_or (so_far d) i (Free Sensor)) ≡ b
-  read b e = subst (λ ns. is_belt (get_or ns i (Free Sensor)) ≡ b) (lent d) e
+  abbrev here : Node
+  here = get_or (so_far d) i (Free Sensor)
 
-  module _ (e : is_belt lent_at ≡ true) where
+  module _ (e : is_belt here ≡ true) where
     counted_on : k + 1 ≡ count_by is_belt (take (i + 1) (so_far d))
-    counted_on = ap (λ m. m + 1) known.numbered ∙ sym (count_by_more_yes is_belt (so_far d) i (Free Sensor) inside (read true e))
+    counted_on = ap (λ m. m + 1) known.numbered ∙ sym (count_by_more_yes is_belt (so_far d) i (Free Sensor) inside e)
 
     pub numbered_few : k < 32
     numbered_few = omega (arith, counted_on, sum_by-take-le (λ n. cond (is_belt n) 1 0) (so_far d) (i + 1), d.counted, d.narrow)
 
-    module _ (rooms items bits : ℕ) (er : rooms ≡ get_or d.rooms.counts k 0) (ei : items ≡ get_or d.items.counts k 0) (eb : bits ≡ get_or d.bits.counts k 0) where
-      told : line_fits (so_far d) i (get_or (so_far d) i (Free Sensor)) ≡ parts_fit rooms items bits
-      told = rw (read true e, ← known.numbered, er, ei, eb, d.roomy k numbered_few, d.laden k numbered_few, d.bitten k numbered_few)
+    module _ (parts : Parts) (has : parts ≡ get_or d.parts.belts k no_parts) where
+      told : line_fits (so_far d) i (get_or (so_far d) i (Free Sensor)) ≡ parts_fit parts.rooms parts.items parts.bits
+      told = rw (e, ← known.numbered, has, d.shared Of.Room k numbered_few, d.shared Of.Item k numbered_few, d.shared Of.Bit k numbered_few)
 
-      pub unfit_here : parts_fit rooms items bits ≡ false → unfit (so_far d) ≡ Some i
+      pub unfit_here : parts_fit parts.rooms parts.items parts.bits ≡ false → unfit (so_far d) ≡ Some i
       unfit_here f = known.left ∙ lowest_here (λ j n. not (line_fits (so_far d) j n)) (so_far d) i inside (ap not (told ∙ f))
 
-      pub fit_here : parts_fit rooms items bits ≡ true → Checked d (i + 1) (k + 1)
+      pub fit_here : parts_fit parts.rooms parts.items parts.bits ≡ true → Checked d (i + 1) (k + 1)
       fit_here f = record { numbered = counted_on; left = known.left ∙ lowest_on (λ j n. not (line_fits (so_far d) j n)) (so_far d) i inside (ap not (told ∙ f)) }
 
-  pub no_belt_here : is_belt lent_at ≡ false → Checked d (i + 1) k
+  pub no_belt_here : is_belt here ≡ false → Checked d (i + 1) k
   no_belt_here e =
       record {
-        numbered = known.numbered ∙ sym (count_by_more_no is_belt (so_far d) i (Free Sensor) inside (read false e));
-        left = known.left ∙ lowest_on (λ j n. not (line_fits (so_far d) j n)) (so_far d) i inside (rw (read false e));
+        numbered = known.numbered ∙ sym (count_by_more_no is_belt (so_far d) i (Free Sensor) inside e);
+        left = known.left ∙ lowest_on (λ j n. not (line_fits (so_far d) j n)) (so_far d) i inside (rw e);
       }

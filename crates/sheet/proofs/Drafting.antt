@@ -1,40 +1,46 @@
 -- One node more in a draft.
-use Rattle.std.proofs.Common.{◌≡◌, ℕ, ◌+◌, ◌-◌, ◌<◌, ◌≤◌, Bool, true, false, List, [], ◌∷◌, ◌++◌, length, get_or, take, set, replicate, Ok, Err, count_by, Option, sym, ap, ◌∙◌, subst, ⊎_elim, arith}
-use native.Mathlib.Nat.{sub-zero}
+use Rattle.std.proofs.Common.{◌≡◌, ℕ, ◌+◌, ◌<◌, true, List, [], ◌∷◌, ◌++◌, length, get_or, take, set, replicate, count_by, sym, refl, ap, ◌∙◌, subst, ⊎_elim, arith}
 use Rattle.std.proofs.lemmas.Bool.{cases_lt}
 use Rattle.std.proofs.lemmas.List.{take_more_set, length-take-le, get_or_past, length_push, get_or-replicate}
-use Rattle.std.proofs.lemmas.List.Sums.{count_by-le-length}
-use Rattle.sheet.specs.declared.node.Node.{Node}
+use Rattle.sheet.specs.Words.{Node}
+use Rattle.sheet.specs.Parts.{is_part}
+use Rattle.sheet.specs.declared.parts.Part.{Part}
+use Rattle.sheet.specs.declared.parts.Part.TheVariants as Of
+use Rattle.sheet.specs.declared.sheet.tally.Parts.{Parts}
 use Rattle.sheet.specs.declared.sheet.draft.Draft.{Draft}
-use Rattle.sheet.specs.declared.fault.Refusal.TheVariants.{TooMany, GateOutOfOrder}
-use Rattle.sheet.specs.Nodes.{is_belt, is_free, is_the}
-use Rattle.sheet.specs.Refusals.{fault}
+use Rattle.sheet.specs.Nodes.{is_belt, is_free}
 use Rattle.sheet.specs.Rules.{sizes_fit, order_fits, Ordered}
-use Rattle.sheet.specs.Loading.{size_fits, admitted}
+use Rattle.sheet.specs.Loading.{size_fits}
 use Rattle.sheet.specs.Wires.{bit}
-use Rattle.sheet.specs.Drafts.{Counts}
+use Rattle.sheet.specs.Drafts.{counted, no_parts, Tallied}
 use Rattle.sheet.proofs.Counting.{count_push}
 use Rattle.sheet.proofs.Sizes.{Sizes, sizes_parts, ordered_push}
 
 pub none_counted : (b : ℕ) → ◌≡◌ {A = ℕ} (get_or (replicate 32 0) b 0) 0
 none_counted b = ⊎_elim (get_or-replicate 32 b 0 0) (get_or_past (replicate 32 0) b 0) (cases_lt b 32)
 
-pub counts_few : (p : ℕ → Node → Bool) (ns : List Node) (counts : List ℕ) → length ns ≤ 640 → Counts p ns counts → (b : ℕ) → b < 32 → get_or counts b 0 ≤ 640
-counts_few p ns counts few told b h = omega (arith, told b h, count_by-le-length (p b) ns)
+-- 32 belts that have no parts
+pub no_parts_counted : (none : Parts) → none.rooms ≡ 0 → none.items ≡ 0 → none.bits ≡ 0 → (p : Part) (b : ℕ) → counted p (get_or (replicate 32 none) b no_parts) ≡ 0
+no_parts_counted none r i t p b =
+    ⊎_elim (λ h. ap (counted p) (get_or-replicate 32 b none no_parts h) ∙ in_each p) (λ h. ap (counted p) (get_or_past (replicate 32 none) b no_parts h) ∙ in_none p) (cases_lt b 32)
+  where
+    in_each : (p : Part) → counted p none ≡ 0
+    in_each Of.Room = r
+    in_each Of.Item = i
+    in_each Of.Bit = t
 
-pub counts_push : (p : ℕ → Node → Bool) (ns : List Node) (n : Node) (before after : List ℕ) → Counts p ns before → ((b : ℕ) → b < 32 → get_or after b 0 ≡ get_or before b 0 + bit (p b n)) → Counts p (ns ++ n ∷ []) after
-counts_push p ns n before after told more b h = more b h ∙ ap (λ m. m + bit (p b n)) (told b h) ∙ sym (count_push (p b) ns n)
+    in_none : (p : Part) → counted p no_parts ≡ 0
+    in_none Of.Room = refl
+    in_none Of.Item = refl
+    in_none Of.Bit = refl
 
 module _ (d : Draft) where
-  -- the nodes so far, and as the code lends them
+  -- the nodes so far
   abbrev pub before : List Node
   before = take d.len d.nodes
 
   pub length_before : length before ≡ d.len
   length_before = length-take-le d.len d.nodes (omega (arith, d.whole, d.few))
-
-  pub lent : take (d.len - 0) d.nodes ≡ before
-  lent = ap (λ k. take k d.nodes) (sub-zero d.len)
 
   -- a node more, whose tests gave the counts b and f more of belts and of free wires
   module _ (n : Node) (b f : ℕ) (eb : b ≡ bit (is_belt n)) (ef : f ≡ bit (is_free n)) where
@@ -47,24 +53,12 @@ module _ (d : Draft) where
     sizes : size_fits (before ++ n ∷ []) ≡ sizes_fit (d.len + 1) (d.belts + b) (d.free + f)
     sizes = rw (length_push before n, length_before, ← belts_more, ← free_more)
 
-    pub too_many : sizes_fit (d.len + 1) (d.belts + b) (d.free + f) ≡ false → admitted before n ≡ Err (fault TooMany d.len)
-    too_many s = rw (sizes, s, length_before)
-
-    pub out_of_order : sizes_fit (d.len + 1) (d.belts + b) (d.free + f) ≡ true → order_fits (take (d.len - 0) d.nodes) n ≡ false → admitted before n ≡ Err (fault GateOutOfOrder d.len)
-    out_of_order s o = let o' : order_fits before n ≡ false = subst (λ ns. order_fits ns n ≡ false) lent o in rw (sizes, s, o', length_before)
-
-    module _ (s : sizes_fit (d.len + 1) (d.belts + b) (d.free + f) ≡ true) (o : order_fits (take (d.len - 0) d.nodes) n ≡ true) where
-      in_order : order_fits before n ≡ true
-      in_order = subst (λ ns. order_fits ns n ≡ true) lent o
-
+    module _ (s : sizes_fit (d.len + 1) (d.belts + b) (d.free + f) ≡ true) (o : order_fits before n ≡ true) where
       pub fits : Sizes (d.len + 1) (d.belts + b) (d.free + f)
       fits = sizes_parts _ _ _ s
 
       pub after : take (d.len + 1) (set d.nodes d.len n) ≡ before ++ n ∷ []
       after = take_more_set d.nodes d.len n (omega (arith, d.whole, fits))
-
-      pub goes_in : admitted before n ≡ Ok (take (d.len + 1) (set d.nodes d.len n))
-      goes_in = rw (after, sizes, s, in_order)
 
       pub belts_counted : d.belts + b ≡ count_by is_belt (take (d.len + 1) (set d.nodes d.len n))
       belts_counted = rw after belts_more
@@ -73,10 +67,8 @@ module _ (d : Draft) where
       free_counted = rw after free_more
 
       pub stays_ordered : Ordered (take (d.len + 1) (set d.nodes d.len n))
-      stays_ordered = subst Ordered (sym after) (ordered_push before n d.ordered in_order)
+      stays_ordered = subst Ordered (sym after) (ordered_push before n d.ordered o)
 
-      -- q tells the belt of which a node is a part, and named is what it told of this node
-      pub stays_counted : (q : Node → Option ℕ) (named : Option ℕ) (old new : List ℕ) → named ≡ q n → Counts (λ c m. is_the c (q m)) before old → ((c : ℕ) → c < 32 → get_or new c 0 ≡ get_or old c 0 + bit (is_the c named)) → Counts (λ c m. is_the c (q m)) (take (d.len + 1) (set d.nodes d.len n)) new
-      stays_counted q named old new e told more =
-          subst (λ ns. Counts (λ c m. is_the c (q m)) ns new) (sym after)
-          (counts_push (λ c m. is_the c (q m)) before n old new told (λ c h. more c h ∙ ap (λ o. get_or old c 0 + bit (is_the c o)) e))
+      pub stays_tallied : (old new : List Parts) → Tallied before old → ((p : Part) (b : ℕ) → b < 32 → counted p (get_or new b no_parts) ≡ counted p (get_or old b no_parts) + bit (is_part p b n)) → Tallied (take (d.len + 1) (set d.nodes d.len n)) new
+      stays_tallied old new told more p b h =
+          more p b h ∙ ap (λ m. m + bit (is_part p b n)) (told p b h) ∙ sym (count_push (is_part p b) before n) ∙ ap (count_by (is_part p b)) (sym after)

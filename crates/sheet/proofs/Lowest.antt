@@ -2,6 +2,9 @@
 use Rattle.std.proofs.Common.{◌≡◌, ℕ, zero, suc, ◌+◌, ◌<◌, ◌≤◌, Bool, true, false, cond, not, List, [], ◌∷◌, length, get_or, drop, Some, None, Option, sym, refl, ap, ◌∙◌, add-zero, add-suc, suc-add, zero-add, add-one, arith}
 use Rattle.std.proofs.lemmas.Bool.{cond-true, cond-false, not-false, not_from_true}
 use Rattle.std.proofs.lemmas.List.{at_drop_more, at_drop_all}
+use Rattle.std.specs.List.{position, position_from}
+use Rattle.std.specs.Option.{option_map}
+use Rattle.std.proofs.lemmas.Iterator.Adapters.{position_from-zero}
 use Rattle.sheet.specs.declared.node.Node.{Node}
 use Rattle.sheet.specs.declared.node.Node.TheVariants.{Free}
 use Rattle.sheet.specs.declared.node.Source.TheVariants.{Sensor}
@@ -16,6 +19,18 @@ module _ (p : ℕ → Node → Bool) (ns : List Node) (i : ℕ) where
 
   pub lowest_none : length ns ≤ i → lowest p i (drop i ns) ≡ None
   lowest_none h = at_drop_all (lowest p i) ns i h
+
+-- a search by the nodes alone is for their place in the list
+module _ (p : Node → Bool) (k : ℕ) where
+  placed : (j : ℕ) (ns : List Node) → lowest (λ _ n. p n) (k + j) ns ≡ option_map (λ i. k + i) (position_from p j ns)
+  placed j [] = refl
+  placed j (n ∷ ns) = by (p n) _ _ (ap (λ m. lowest (λ _ n. p n) m ns) (omega arith) ∙ placed (j + 1) ns) where
+    by : (b : Bool) (x y : Option ℕ) → x ≡ option_map (λ i. k + i) y → cond b (Some (k + j)) x ≡ option_map (λ i. k + i) (cond b (Some j) y)
+    by true x y e = refl
+    by false x y e = e
+
+  pub lowest_placed : (ns : List Node) (o : Option ℕ) → o ≡ position p ns → lowest (λ _ n. p n) k ns ≡ option_map (λ i. k + i) o
+  lowest_placed ns o e = ap (λ m. lowest (λ _ n. p n) m ns) (sym (add-zero k)) ∙ placed 0 ns ∙ ap (option_map (λ i. k + i)) (sym (e ∙ position_from-zero p ns))
 
 first_passed : (b : Bool) (o : Option ℕ) (k : ℕ) → cond b (Some k) o ≡ None → (b ≡ false) × (o ≡ None)
 first_passed true o k e = let z : ◌≡◌ {A = ℕ} 0 1 = cc in absurd (omega arith)

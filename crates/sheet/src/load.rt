@@ -15,23 +15,11 @@ use crate::text::Order;
 
 const MOST_BYTES: usize = 8192;
 
-fn unfit_text() -> Fault
-    ensures { result ≡ fault UnfitText 0 }
-{
-    Fault {
-        refusal: Refusal::UnfitText,
-        place: 0,
-    }
-}
-
 // A text is not empty, not too long, and ends with a line feed.
 fn is_fit(text: &[u8]) -> bool
     ensures { result ≡ text_fits text.now }
 {
-    match text.last() {
-        Some(last) => text.len() <= MOST_BYTES && *last == b'\n',
-        None => false,
-    }
+    text.len() <= MOST_BYTES && text.last() == Some(&b'\n')
 }
 
 // The nodes of the value lines, in one pass.
@@ -54,27 +42,11 @@ fn read_text(text: &[u8]) -> Result<Sheet, Fault>
     ensures { MatchResult result (λ s. loaded text.now ≡ Ok (nodes_in s)) (λ e. loaded text.now ≡ Err e) }
 {
     let Some((names, values)) = split_once(text, b'\n') else {
-        return Err(unfit_text());
+        return Err(Refusal::UnfitText.into());
     };
     let order = read_names(names)?;
     let draft = read_values(order, values)?;
     draft.finish()
-}
-
-// The same, with what it says of the text.
-fn read_sheet(text: &[u8]) -> Result<Sheet, Fault>
-    requires { text_fits text.now ≡ true }
-    ensures { MatchResult result (λ s. Accepted text.now (nodes_in s)) (λ e. Refused text.now e) }
-{
-    read_text(text)
-}
-
-// The refusal of a text that is not fit.
-fn refuse_text(text: &[u8]) -> Fault
-    requires { text_fits text.now ≡ false }
-    ensures { Refused text.now result }
-{
-    unfit_text()
 }
 
 impl Sheet {
@@ -82,10 +54,9 @@ impl Sheet {
     pub fn load(text: &[u8]) -> Result<Sheet, Fault>
         ensures { MatchResult result (λ s. Accepted text.now (nodes_in s)) (λ e. Refused text.now e) }
     {
-        if is_fit(text) {
-            read_sheet(text)
-        } else {
-            Err(refuse_text(text))
+        if !is_fit(text) {
+            return Err(Refusal::UnfitText.into());
         }
+        read_text(text)
     }
 }

@@ -5,20 +5,9 @@ ghost use Rattle.sheet.specs.Text.{value_of, is_digit, digits, limited};
 ghost use Rattle.sheet.specs.declared.fault.Refusal.TheVariants.{WrongValues};
 
 use crate::fault::{Fault, Refusal};
-use crate::text::Value;
 
 // The highest number that a sheet may hold.
 const LAST_NUMBER: u16 = 639;
-
-// The refusal of line `at` for its values.
-pub(crate) fn wrong_values(at: u16) -> Fault
-    ensures { result ≡ fault WrongValues at }
-{
-    Fault {
-        refusal: Refusal::WrongValues,
-        place: at,
-    }
-}
 
 // What one decimal digit is worth.
 fn read_digit(b: u8, at: u16) -> Result<u16, Fault>
@@ -26,12 +15,12 @@ fn read_digit(b: u8, at: u16) -> Result<u16, Fault>
 {
     match b {
         b'0'..=b'9' => Ok(u16::from(b - b'0')),
-        _ => Err(wrong_values(at)),
+        _ => Err(Refusal::WrongValues.at(at)),
     }
 }
 
 // The number that digits write.
-fn read_digits(field: &[u8], at: u16) -> Result<Value, Fault>
+fn read_digits(field: &[u8], at: u16) -> Result<Option<u16>, Fault>
     ensures { result ≡ ok_or (limited (digits 0 field.now)) (fault WrongValues at) }
 {
     let mut n: u16 = 0;
@@ -39,21 +28,21 @@ fn read_digits(field: &[u8], at: u16) -> Result<Value, Fault>
         let d = read_digit(*b, at)?;
         n = n * 10 + d;
         if n > LAST_NUMBER {
-            return Err(wrong_values(at));
+            return Err(Refusal::WrongValues.at(at));
         }
     }
-    Ok(Value::Number(n))
+    Ok(Some(n))
 }
 
-// A dash, or a number from 0 to 639 without leading zeros.
-pub(crate) fn read_value(field: &[u8], at: u16) -> Result<Value, Fault>
+// A number from 0 to 639 without leading zeros, or none where a dash stands.
+pub(crate) fn read_value(field: &[u8], at: u16) -> Result<Option<u16>, Fault>
     ensures { result ≡ ok_or (value_of field.now) (fault WrongValues at) }
 {
     match field {
-        [] => Err(wrong_values(at)),
-        [b'-'] => Ok(Value::Dash),
-        [b'0'] => Ok(Value::Number(0)),
-        [b'0', ..] => Err(wrong_values(at)),
+        [] => Err(Refusal::WrongValues.at(at)),
+        [b'-'] => Ok(None),
+        [b'0'] => Ok(Some(0)),
+        [b'0', ..] => Err(Refusal::WrongValues.at(at)),
         some => read_digits(some, at),
     }
 }

@@ -1,6 +1,11 @@
 #[cfg(test)]
 mod tests {
+    use sheet::class::Class;
+    use sheet::fault::Refusal;
+    use sheet::node::{Gate, Node};
+    use sheet::parts::{Part, find_part};
     use sheet::sheet::Sheet;
+    use sheet::text::Order;
     use std::alloc::{AllocError, Global};
     use std::test::Fail;
 
@@ -293,18 +298,42 @@ mod tests {
         assert_eq!(rt; none.len(), 0);
         assert!(rt; none.node(0).is_none());
         let text = b"kind left right\ni - -\nf 0 -\nr 0 -\nh 0 -\nd 0 1\nb 0 6\nx 0 1\n1 - -\n";
-        match Sheet::load(text) {
-            Ok(sheet) => {
-                assert_eq!(rt; (sheet.len(), sheet.belts()), (8, 1));
-                assert_eq!(rt;
-                    (sheet.sensors(), sheet.flops(), sheet.free_wires()),
-                    (1, 1, 5)
-                );
-                assert!(rt; sheet.node(7).is_some());
-                assert!(rt; sheet.node(8).is_none());
-                Ok(())
-            }
-            Err(_) => Err(Fail::new("the sheet was refused")),
-        }
+        let sheet = Sheet::load(text)?;
+        assert_eq!(rt; (sheet.len(), sheet.belts()), (8, 1));
+        assert_eq!(rt;
+            (sheet.sensors(), sheet.flops(), sheet.free_wires()),
+            (1, 1, 5)
+        );
+        assert!(rt; sheet.node(7).is_some());
+        assert!(rt; sheet.node(8).is_none());
+        assert_eq!(rt; sheet.node(5), Some(Node::Belt { offer: 0, take: 6 }));
+        assert_eq!(rt; sheet.node(7), Some(Node::Gate(Gate::Constant(true))));
+        assert!(rt; sheet.is_wire(6) && !sheet.is_wire(5) && !sheet.is_wire(8));
+        assert!(rt;
+            sheet
+                .node(0)
+                .is_some_and(|node| node.is_of(Class::Sensor) && node.is_free())
+        );
+        assert_eq!(rt; find_part(Part::Bit, 0, sheet.nodes(), 0), Some(4));
+        assert_eq!(rt; find_part(Part::Item, 0, sheet.nodes(), 4), None);
+        Ok(())
+    }
+
+    // Refusals compare and print, and orders of the columns give their names.
+    #[test]
+    fn refusals(rt: HostRuntime) -> Result<(), Fail> {
+        let heap = rt.alloc();
+        let fault = Sheet::load(b"kind left right\nx 0 1\n").err();
+        assert_eq!(rt; fault, Some(Refusal::GateOutOfOrder.at(0)));
+        assert_eq!(rt; Sheet::load(b"").err(), Some(Refusal::UnfitText.into()));
+        assert!(rt; Refusal::TooMany.at(3) != Refusal::TooMany.at(4));
+        assert_eq!(rt;
+            Refusal::UnfitBelt.at(12).to_string(heap)?.as_str(),
+            "refused 7 at 12"
+        );
+        assert_eq!(rt; format!(in heap; "{:?}", Part::Room)?.as_str(), "Room");
+        assert_eq!(rt; format!(in heap; "{:?}", Sheet::unfilled())?.as_str(), "[]");
+        assert_eq!(rt; Order::LeftRightKind.names(), b"left right kind".as_slice());
+        Ok(())
     }
 }

@@ -1,12 +1,10 @@
--- What lib.Bits lacks: or is associative, grows, and subsets.
-use Rattle.std.proofs.Common.{◌≡◌, ℕ, zero, suc, ◌/◌, ◌%◌, ◌<◌, ◌≤◌, Bool, true, false, ◌&&◌, sym, refl, ap, ◌∙◌, ap₂, mod-lt, zero-lt-suc, arith}
+-- What lib.Bits lacks: or is associative, and subsets.
+use Rattle.std.proofs.Common.{◌≡◌, ℕ, zero, suc, ◌/◌, ◌%◌, ◌<◌, Bool, true, false, ◌&&◌, sym, refl, ap, ◌∙◌, ap₂, mod-lt, zero-lt-suc, arith}
 use lib.Arith.{bin_ind}
-use lib.Bits.{bit_or, or_add_and, and_le_r, or_comm, or_self, or_shr, or_mod}
+use lib.Bits.{bit_or, or_comm, or_self, or_shr, or_mod}
+use Rattle.std.proofs.lemmas.Nat.{le_or_l}
 use Rattle.std.proofs.lemmas.Bool.{eqb-true, eq-eqb, ne_eqb, eqb-false}
 use Rattle.terms.specs.Forms.{high}
-
-pub or_above : (a b : ℕ) → a ≤ bit_or a b
-or_above a b = let e = or_add_and a b in let l = and_le_r a b in omega arith
 
 two_pos : zero < 2
 two_pos = zero-lt-suc 1
@@ -38,7 +36,7 @@ or_assoc =
 
 -- a set with a wire above every wire of the row is not high
 pub low_above : (s r : ℕ) → r < s → high s r ≡ false
-low_above s r h = ne_eqb (bit_or s r) r (λ e. let l = or_above s r in omega arith)
+low_above s r h = ne_eqb (bit_or s r) r (λ e. let l = le_or_l s r in omega arith)
 
 pub high_self : (s : ℕ) → high s s ≡ true
 high_self s = eq-eqb (bit_or s s) s (or_self s)

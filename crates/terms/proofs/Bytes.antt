@@ -1,25 +1,7 @@
 -- Bytes and the numbers that they spell.
-use Rattle.std.proofs.Common.{◌≡◌, ℕ, zero, suc, ◌+◌, ◌*◌, ◌/◌, ◌%◌, ◌^◌, ◌<◌, ◌≤◌, List, [], ◌∷◌, length, get_or, set, replicate, sym, refl, ap, ◌∙◌, ap₂, mul_assoc, pow-suc, arith}
+use Rattle.std.proofs.Common.{◌≡◌, ℕ, zero, suc, ◌+◌, ◌*◌, ◌/◌, ◌%◌, ◌^◌, ◌<◌, List, [], ◌∷◌, length, get_or, set, replicate, sym, refl, ap, ◌∙◌, ap₂, mul_assoc, pow-suc, arith}
 use native.Mathlib.Nat.{div-div-eq-div-mul}
 use Rattle.terms.specs.Sets.{number_of, bytes_of}
-
--- n bytes from place i on, as the library's conversions read them
-abbrev pub spelled : List ℕ → ℕ → ℕ → ℕ
-spelled bs i zero = 0
-spelled bs i (suc n) = get_or bs i 0 + 256 * spelled bs (suc i) n
-
-spelled_next : (b : ℕ) (bs : List ℕ) (i n : ℕ) → spelled (b ∷ bs) (suc i) n ≡ spelled bs i n
-spelled_next b bs i zero = refl
-spelled_next b bs i (suc n) = ap (λ (x : ℕ). get_or bs i 0 + 256 * x) (spelled_next b bs (suc i) n)
-
-spelled_nil : (i n : ℕ) → spelled [] i n ≡ 0
-spelled_nil i zero = refl
-spelled_nil i (suc n) = ap (λ (x : ℕ). 0 + 256 * x) (spelled_nil (suc i) n)
-
-pub spelled_all : (bs : List ℕ) (n : ℕ) → length bs ≤ n → spelled bs 0 n ≡ number_of bs
-spelled_all [] n h = spelled_nil 0 n
-spelled_all (b ∷ bs) zero h = absurd (omega arith)
-spelled_all (b ∷ bs) (suc n) h = ap (λ (x : ℕ). b + 256 * x) (spelled_next b bs 0 n ∙ spelled_all bs n (omega arith))
 
 -- n bytes of a number, from that of weight d on, as the library's conversions write them
 abbrev pub digits : ℕ → ℕ → ℕ → List ℕ

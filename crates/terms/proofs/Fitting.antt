@@ -1,12 +1,10 @@
 -- What the tests of a call's records and operands say.
 use Rattle.std.proofs.Common.{◌≡◌, ℕ, ◌+◌, ◌*◌, ◌^◌, ◌<◌, ◌≤◌, true, ◌&&◌, ltb, leb, List, [], ◌∷◌, length, take, set, ℤ, pos, ◌+ℤ◌, ◌*ℤ◌, nat_abs, refl, ap, ◌∙◌, ap₂, arith}
 use lib.IntN.{suc_ℤ-*ℤ, zero-*ℤ, +ℤ_idl}
-use Rattle.std.proofs.lemmas.Nat.{mul-le}
-use Rattle.std.proofs.lemmas.Bool.{and_parts, and_from, leb-true, ltb-true, le-leb, lt-ltb}
+use Rattle.std.proofs.lemmas.Bool.{and_parts, leb-true, ltb-true}
 use Rattle.terms.specs.declared.term.Term.{Term}
 use Rattle.terms.specs.Forms.{Form, norm, scaled}
-use Rattle.terms.specs.Records.{form_in, light, bearable, scaled_fits, product_fits, gate_fits}
-use Rattle.terms.proofs.Norms.{Small, small_norm}
+use Rattle.terms.specs.Records.{form_in, light, bearable, product_fits, gate_fits}
 
 light_parts : (p q : List Term) → (light p && light q) ≡ true → (norm (form_in p) < 2 ^ 30) × (norm (form_in q) < 2 ^ 30)
 light_parts p q e =
@@ -15,14 +13,6 @@ light_parts p q e =
 
 bearable_norm : (W : List Term) (n : ℕ) → bearable W n ≡ true → norm (form_in (take n W)) < 2 ^ 62
 bearable_norm W n e = ltb-true (norm (form_in (take n W))) (2 ^ 62) (and_parts (leb n (length W)) (ltb (norm (form_in (take n W))) (2 ^ 62)) e).1
-
-pub scaled_parts : (W : List Term) (n : ℕ) (k : ℤ) (p : List Term) → scaled_fits W n k p ≡ true
-    → (norm (form_in (take n W)) < 2 ^ 62) × (n + length p ≤ length W) × (nat_abs k ≤ 2) × (norm (form_in p) < 2 ^ 30)
-scaled_parts W n k p e =
-    let a = and_parts (bearable W n) (leb (n + length p) (length W) && (leb (nat_abs k) 2 && light p)) e in
-    let b = and_parts (leb (n + length p) (length W)) (leb (nat_abs k) 2 && light p) a.1 in
-    let d = and_parts (leb (nat_abs k) 2) (light p) b.1 in
-    (bearable_norm W n a.0, leb-true (n + length p) (length W) b.0, leb-true (nat_abs k) 2 d.0, ltb-true (norm (form_in p)) (2 ^ 30) d.1)
 
 pub product_parts : (W : List Term) (n : ℕ) (k : ℤ) (p q : List Term) → product_fits W n k p q ≡ true
     → (norm (form_in (take n W)) < 2 ^ 62) × (n + length p * length q ≤ length W) × (nat_abs k ≤ 2) × (norm (form_in p) < 2 ^ 30) × (norm (form_in q) < 2 ^ 30)
@@ -51,18 +41,3 @@ scaled_one (t ∷ p) = ap₂ (λ (x : ℕ × ℤ) (y : Form). x ∷ y) (λ i. (t
 pub first_put : (W : List Term) (t : Term) → 0 < length W → take 1 (set W 0 t) ≡ t ∷ []
 first_put [] t h = absurd (omega arith)
 first_put (w ∷ W) t h = refl
-
--- ---- when a gate fits
-
-pub gate_fits_lem : (n : ℕ) (W p q : List Term) → n ≤ length W → norm (form_in p) < 2 ^ 30 → norm (form_in q) < 2 ^ 30 → gate_fits n W p q ≡ true
-gate_fits_lem n W p q h v w =
-    and_from (leb n (length W)) (light p && light q) (le-leb n (length W) h)
-    (and_from (light p) (light q) (lt-ltb (norm (form_in p)) (2 ^ 30) v) (lt-ltb (norm (form_in q)) (2 ^ 30) w))
-
--- at most 24 terms with coefficients of at most 8,388,608 are light
-pub few_light : (p : Form) → length p ≤ 24 → Small 8388608 p → norm p < 2 ^ 30
-few_light p h s = omega (arith, small_norm 8388608 p s)
-
--- and 624 records suffice for every gate over two of at most 24 terms
-pub few_room : (a b : ℕ) → a ≤ 24 → b ≤ 24 → a + b + a * b ≤ 624
-few_room a b h l = omega (arith, mul-le a b 24 24 h l)

@@ -1,5 +1,5 @@
 -- Norms grow no faster than what is added.
-use Rattle.std.proofs.Common.{◌≡◌, ℕ, zero, suc, ◌+◌, ◌*◌, ◌^◌, ◌<◌, ◌≤◌, cond, eqb, ltb, List, [], ◌∷◌, length, get_or, take, ℤ, ◌+ℤ◌, ◌*ℤ◌, nat_abs, sym, ap, ◌∙◌, ap₂, suc-mul, add-mul, mul-zero, mul-add, arith}
+use Rattle.std.proofs.Common.{◌≡◌, ℕ, zero, suc, ◌+◌, ◌*◌, ◌^◌, ◌<◌, ◌≤◌, cond, eqb, ltb, List, [], ◌∷◌, length, get_or, take, ℤ, ◌+ℤ◌, ◌*ℤ◌, nat_abs, sym, ap, ◌∙◌, ap₂, add-mul, mul-zero, mul-add, arith}
 use Rattle.std.proofs.lemmas.Nat.{mul-le}
 use Rattle.std.proofs.lemmas.Bool.{cond_both}
 use Rattle.terms.specs.declared.term.Term.{Term}
@@ -66,7 +66,3 @@ small_norm b (t ∷ p) s = omega (arith, s.0, small_norm b p s.1, add-mul 1 (len
 -- the products of two light operands, at most twice
 pub twice_light : (k a b : ℕ) → k ≤ 2 → a < 2 ^ 30 → b < 2 ^ 30 → k * a * b ≤ 2 ^ 61
 twice_light k a b h i j = omega (arith, mul-le (k * a) b (2 ^ 31) (2 ^ 30) (omega (arith, mul-le k a 2 (2 ^ 30) h (omega arith))) (omega arith))
-
--- row j of a rows of n places ends within them
-pub row_within : (j a n : ℕ) → j < a → j * n + n ≤ a * n
-row_within j a n h = omega (arith, mul-le (suc j) n a n (omega arith) (omega arith), suc-mul j n)

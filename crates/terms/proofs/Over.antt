@@ -1,9 +1,11 @@
--- A list X written over the front of a list W, one place after another.
+-- A list written over the front of another; a record taken into the first of some, and one taken out of them, by copies within the list.
 use Rattle.std.proofs.Common.{◌≡◌, ℕ, zero, suc, ◌+◌, ◌-◌, ◌<◌, ◌≤◌, List, [], ◌∷◌, ◌++◌, length, get_or, take, drop, set, sym, refl, ap, ◌∙◌, add-one, arith}
-use Rattle.std.specs.List.{insert, remove}
-use Rattle.std.proofs.lemmas.List.Edits.{length-insert, length-remove, get_or-insert_above, get_or-remove_above}
-use Rattle.std.proofs.lemmas.List.{get_or_default}
+use Rattle.std.proofs.Math.Seq.{take-append-add, drop-append-add}
+use Rattle.std.specs.List.{insert, remove, copy_within}
+use Rattle.std.proofs.lemmas.List.Edits.{length-insert, length-remove}
+use Rattle.std.proofs.lemmas.List.{append_assoc, length-take-le, take_more, drop-drop, drop_at, set_at}
 
+-- a list X written over the front of a list W
 abbrev pub over : {A : Type 0} → List A → List A → ℕ → List A
 over W X k = take k X ++ drop k W
 
@@ -14,60 +16,46 @@ module _ {A : Type 0} where
   over_suc (w ∷ W) (x ∷ X) zero z h l = refl
   over_suc (w ∷ W) (x ∷ X) (suc k) z h l = ap (λ (y : List A). x ∷ y) (over_suc W X k z (omega arith) (omega arith))
 
-  pub over_more : (W X : List A) (k : ℕ) (z v : A) → k < length W → k < length X → v ≡ get_or X k z → set (over W X k) k v ≡ over W X (k + 1)
-  over_more W X k z v h l e = ap (set (over W X k) k) e ∙ over_suc W X k z h l ∙ ap (over W X) (sym (add-one k))
+  pub over_more : (W X : List A) (k : ℕ) (z : A) → k < length W → k < length X → set (over W X k) k (get_or X k z) ≡ over W X (k + 1)
+  over_more W X k z h l = over_suc W X k z h l ∙ ap (over W X) (sym (add-one k))
 
-  pub over_read : (W X : List A) (k j : ℕ) (d : A) → k ≤ length X → k ≤ j → j < length W → get_or (over W X k) j d ≡ get_or W j d
-  over_read W X zero j d h l m = refl
-  over_read W [] (suc k) j d h l m = absurd (omega arith)
-  over_read [] (x ∷ X) (suc k) j d h l m = absurd (omega arith)
-  over_read (w ∷ W) (x ∷ X) (suc k) zero d h l m = absurd (omega arith)
-  over_read (w ∷ W) (x ∷ X) (suc k) (suc j) d h l m = over_read W X k j d (omega arith) (omega arith) (omega arith)
+  take_past : (a b : List A) (n k : ℕ) → length a + k ≡ n → take n (a ++ b) ≡ a ++ take k b
+  take_past a b n k e = ap (λ m. take m (a ++ b)) (sym e) ∙ take-append-add a b k
 
-  pub over_drop : (W X : List A) (k m : ℕ) → k ≤ length X → k ≤ m → m ≤ length W → drop m (over W X k) ≡ drop m W
-  over_drop W X zero m h l n = refl
-  over_drop W [] (suc k) m h l n = absurd (omega arith)
-  over_drop [] (x ∷ X) (suc k) m h l n = absurd (omega arith)
-  over_drop (w ∷ W) (x ∷ X) (suc k) zero h l n = absurd (omega arith)
-  over_drop (w ∷ W) (x ∷ X) (suc k) (suc m) h l n = over_drop W X k m (omega arith) (omega arith) (omega arith)
+  drop_past : (a b : List A) (n k : ℕ) → length a + k ≡ n → drop n (a ++ b) ≡ drop k b
+  drop_past a b n k e = ap (λ m. drop m (a ++ b)) (sym e) ∙ drop-append-add a b k
 
-  pub over_inserted : (W : List A) (i : ℕ) (t : A) → i ≤ length W → W ≡ over W (insert W i t) i
-  over_inserted W zero t h = refl
-  over_inserted [] (suc i) t h = absurd (omega arith)
-  over_inserted (w ∷ W) (suc i) t h = ap (λ (y : List A). w ∷ y) (over_inserted W i t (omega arith))
+  -- the records from place i on move up by one, and t is put there
+  pub opened_is : (W : List A) (n i : ℕ) (t : A) → n < length W → i ≤ n → set (copy_within W i n (i + 1)) i t ≡ take (n + 1) (insert W i t) ++ drop (n + 1) W
+  opened_is W n i t h l =
+      let a = take i W in
+      let w = get_or W i t in
+      let D = take (n - i) (drop i W) in
+      let R = drop (i + 1 + (n - i)) W in
+      let size : length a ≡ i = length-take-le i W (omega arith) in
+      let end : i + 1 + (n - i) ≡ n + 1 = omega arith in
+      let moved : copy_within W i n (i + 1) ≡ a ++ (w ∷ (D ++ R)) =
+      ap (λ z. (z ++ D) ++ R) (take_more W i t (omega arith)) ∙ ap (λ z. z ++ R) (append_assoc a (w ∷ []) D) ∙ append_assoc a (w ∷ D) R in
+      ap (λ z. set z i t) moved ∙ set_at a w (D ++ R) t i size ∙ ap (λ k. a ++ (t ∷ (D ++ drop k W))) end
+      ∙ sym (ap (λ z. z ++ drop (n + 1) W) (take_past a (t ∷ drop i W) (n + 1) (suc (n - i)) (omega arith)) ∙ append_assoc a (t ∷ D) (drop (n + 1) W))
 
-  pub over_removed : (W : List A) (i : ℕ) → i ≤ length W → W ≡ over W (remove W i) i
-  over_removed W zero h = refl
-  over_removed [] (suc i) h = absurd (omega arith)
-  over_removed (w ∷ W) (suc i) h = ap (λ (y : List A). w ∷ y) (over_removed W i (omega arith))
+  -- those above place i move down by one
+  pub closed_is : (W : List A) (n i : ℕ) → n ≤ length W → i < n → copy_within W (i + 1) n i ≡ take (n - 1) (remove W i) ++ drop (n - 1) W
+  closed_is W n i h l =
+      let a = take i W in
+      let size : length a ≡ i = length-take-le i W (omega arith) in
+      let end : i + (n - (i + 1)) ≡ n - 1 = omega arith in
+      ap (λ k. (a ++ take (n - (i + 1)) (drop k W)) ++ drop (i + (n - (i + 1))) W) (add-one i)
+      ∙ ap (λ k. (a ++ take (n - (i + 1)) (drop (suc i) W)) ++ drop k W) end
+      ∙ ap (λ z. z ++ drop (n - 1) W) (sym (take_past a (drop (suc i) W) (n - 1) (n - (i + 1)) (omega arith)))
 
-  -- a turn of the loop that opens a place
-  pub open_step : (W Y : List A) (i k : ℕ) (t v : A) → i ≤ k → k < length W → Y ≡ over W (insert W i t) k
-      → ((d : A) → v ≡ get_or (insert W i t) k d) → set Y k v ≡ over W (insert W i t) (k + 1)
-  open_step W Y i k t v h l e f =
-      ap (λ (y : List A). set y k v) e
-      ∙ over_more W (insert W i t) k t v l (omega (arith, length-insert W i t (omega arith))) (f t)
+  -- what stays from a place on
+  pub opened_rest : (W : List A) (n i : ℕ) (t : A) → n < length W → i ≤ n → drop (n + 1) (take (n + 1) (insert W i t) ++ drop (n + 1) W) ≡ drop (n + 1) W
+  opened_rest W n i t h l =
+      drop_at (take (n + 1) (insert W i t)) (drop (n + 1) W) (n + 1) (length-take-le (n + 1) (insert W i t) (omega (arith, length-insert W i t (omega arith))))
 
-  pub open_carry : (W Y : List A) (i k : ℕ) (t z d : A) → i ≤ k → k < length W → Y ≡ over W (insert W i t) k
-      → get_or Y k z ≡ get_or (insert W i t) (k + 1) d
-  open_carry W Y i k t z d h l e =
-      ap (λ (y : List A). get_or y k z) e
-      ∙ over_read W (insert W i t) k k z (omega (arith, length-insert W i t (omega arith))) (omega arith) l
-      ∙ get_or_default W k z d l
-      ∙ sym (get_or-insert_above W i t d k h (omega arith))
-
-  -- a turn of the loop that closes a place
-  pub close_step : (W Y : List A) (i k : ℕ) (z : A) → i ≤ k → k + 1 < length W → Y ≡ over W (remove W i) k
-      → set Y k (get_or Y (k + 1) z) ≡ over W (remove W i) (k + 1)
-  close_step W Y i k z h l e =
-      ap (λ (y : List A). set y k (get_or Y (k + 1) z)) e
-      ∙ over_more W (remove W i) k z (get_or Y (k + 1) z) (omega arith) (omega (arith, length-remove W i (omega arith)))
-      (ap (λ (y : List A). get_or y (k + 1) z) e
-      ∙ over_read W (remove W i) k (k + 1) z (omega (arith, length-remove W i (omega arith))) (omega arith) l
-      ∙ sym (get_or-remove_above W i z k h (omega arith)))
-
-  pub opened_rest : (W : List A) (n i : ℕ) (t : A) → n < length W → i ≤ n → drop (n + 1) (over W (insert W i t) (n + 1)) ≡ drop (n + 1) W
-  opened_rest W n i t h l = over_drop W (insert W i t) (n + 1) (n + 1) (omega (arith, length-insert W i t (omega arith))) (omega arith) (omega arith)
-
-  pub closed_rest : (W : List A) (n i : ℕ) → n < length W → i < n → drop (n + 1) (over W (remove W i) (n - 1)) ≡ drop (n + 1) W
-  closed_rest W n i h l = over_drop W (remove W i) (n - 1) (n + 1) (omega (arith, length-remove W i (omega arith))) (omega arith) (omega arith)
+  pub closed_rest : (W : List A) (n i : ℕ) → n < length W → i < n → drop (n + 1) (take (n - 1) (remove W i) ++ drop (n - 1) W) ≡ drop (n + 1) W
+  closed_rest W n i h l =
+      let size = length-take-le (n - 1) (remove W i) (omega (arith, length-remove W i (omega arith))) in
+      let end : n - 1 + 2 ≡ n + 1 = omega arith in
+      drop_past (take (n - 1) (remove W i)) (drop (n - 1) W) (n + 1) 2 (omega arith) ∙ drop-drop 2 (n - 1) W ∙ ap (λ k. drop k W) end

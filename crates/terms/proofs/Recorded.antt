@@ -1,6 +1,6 @@
 -- Records beside the terms that they hold.
-use Rattle.std.proofs.Common.{◌≡◌, ℕ, ◌+◌, ◌-◌, ◌<◌, ◌≤◌, List, [], ◌∷◌, ◌++◌, map, length, get_or, take, drop, pos, nat_abs, sym, ap, ◌∙◌, ap₂, arith}
-use Rattle.std.proofs.lemmas.List.{get_or_default, at_drop_more, drop-drop, length-map, length-take-le, map-append, take_more}
+use Rattle.std.proofs.Common.{◌≡◌, ℕ, ◌+◌, ◌-◌, ◌*◌, ◌^◌, ◌<◌, ◌≤◌, List, [], ◌∷◌, ◌++◌, map, length, get_or, take, drop, ℤ, pos, nat_abs, sym, ap, ◌∙◌, ap₂, mul-add, arith}
+use Rattle.std.proofs.lemmas.List.{at_drop_more, drop-drop, length-map, length-take-le, map-append, take_more}
 use Rattle.terms.specs.declared.term.Term.{Term}
 use Rattle.terms.specs.Sets.{number_of, bytes_of}
 use Rattle.terms.specs.Forms.{Form, norm}
@@ -11,13 +11,19 @@ use Rattle.terms.proofs.Bytes.{bytes_number}
 abbrev pub unread : Term
 unread = record { set = []; coefficient = pos 0 }
 
--- a set that was read, at any default
-pub set_read : (W : List Term) (i : ℕ) (e : Term) (x : ℕ) → x ≡ number_of (get_or W i e).set → i < length W → (d : Term) → x ≡ number_of (get_or W i d).set
-set_read W i e x h l d = h ∙ ap (λ (t : Term). number_of t.set) (get_or_default W i e d l)
-
 pub norm_step : (ts : List Term) (i : ℕ) → i < length ts
     → norm (form_in (drop i ts)) ≡ nat_abs (get_or ts i unread).coefficient + norm (form_in (drop (i + 1) ts))
 norm_step ts i h = at_drop_more (λ (us : List Term). norm (form_in us)) ts i unread h
+
+-- what one term takes of the room that the rest leaves
+pub next_share : (k : ℤ) (ts : List Term) (j m : ℕ) → j < length ts → m + nat_abs k * norm (form_in (drop j ts)) < 2 ^ 63
+    → m + nat_abs k * nat_abs (get_or ts j unread).coefficient + nat_abs k * norm (form_in (drop (j + 1) ts)) < 2 ^ 63
+next_share k ts j m l h =
+    omega (
+      arith,
+      ap (λ (x : ℕ). nat_abs k * x) (norm_step ts j l)
+          ∙ mul-add (nat_abs k) (nat_abs (get_or ts j unread).coefficient) (norm (form_in (drop (j + 1) ts))),
+    )
 
 pub length_form_in : (ts : List Term) → length (form_in ts) ≡ length ts
 length_form_in ts = length-map ts entry_of

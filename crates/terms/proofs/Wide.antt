@@ -1,5 +1,5 @@
 -- Sizes of sums and products, and i64 values as the code has them.
-use Rattle.std.proofs.Common.{◌≡◌, ℕ, zero, suc, ◌+◌, ◌-◌, ◌*◌, ◌^◌, ◌<◌, ◌≤◌, true, false, eqb, ltb, ℤ, pos, negsuc, ◌+ℤ◌, ◌*ℤ◌, neg_ℤ, nat_abs, sym, refl, ap, ◌∙◌, subst, arith, w64, SFits, to_z, of_z}
+use Rattle.std.proofs.Common.{◌≡◌, ℕ, zero, suc, ◌+◌, ◌-◌, ◌*◌, ◌^◌, ◌<◌, ◌≤◌, true, false, eqb, ltb, ℤ, pos, negsuc, ◌+ℤ◌, ◌*ℤ◌, neg_ℤ, nat_abs, sym, refl, ap₂, ◌∙◌, subst, arith, w64, SFits, to_z, of_z}
 use lib.IntN.{sub_ℕ}
 use Rattle.std.proofs.lemmas.Int.{to_z-of_z}
 use Rattle.std.proofs.lemmas.Bool.{eq-eqb, ne_eqb, cond_both, ltb-true}
@@ -41,12 +41,15 @@ pub whole_of : (z : ℤ) → (of_z w64 z ≡ 0 → ⊥) → eqb (nat_abs z) 0 �
 whole_of (pos n) e = ne_eqb n 0 e
 whole_of (negsuc n) e = ne_eqb (suc n) 0 (λ f. omega arith)
 
--- what the code has for k times a number d that it read
+-- what the code has for a number k times a number d, both of which it read
 abbrev pub made : ℤ → ℤ → ℤ
-made k d = k *ℤ to_z w64 (of_z w64 d)
+made k d = to_z w64 (of_z w64 k) *ℤ to_z w64 (of_z w64 d)
 
-pub made_fits : (k d : ℤ) → SFits w64 d → nat_abs k * nat_abs d < 2 ^ 63 → SFits w64 (made k d)
-made_fits k d f h = subst (λ (z : ℤ). SFits w64 (k *ℤ z)) (sym (to_z-of_z w64 d f)) (fits_from (k *ℤ d) (omega (arith, nat_abs_mul k d)))
+read_product : (k d : ℤ) → SFits w64 k → SFits w64 d → made k d ≡ k *ℤ d
+read_product k d g f = ap₂ (λ (x y : ℤ). x *ℤ y) (to_z-of_z w64 k g) (to_z-of_z w64 d f)
 
-pub made_is : (k d : ℤ) → SFits w64 d → nat_abs k * nat_abs d < 2 ^ 63 → to_z w64 (of_z w64 (made k d)) ≡ k *ℤ d
-made_is k d f h = to_z-of_z w64 (made k d) (made_fits k d f h) ∙ ap (λ (z : ℤ). k *ℤ z) (to_z-of_z w64 d f)
+pub made_fits : (k d : ℤ) → SFits w64 k → SFits w64 d → nat_abs k * nat_abs d < 2 ^ 63 → SFits w64 (made k d)
+made_fits k d g f h = subst (SFits w64) (sym (read_product k d g f)) (fits_from (k *ℤ d) (omega (arith, nat_abs_mul k d)))
+
+pub made_is : (k d : ℤ) → SFits w64 k → SFits w64 d → nat_abs k * nat_abs d < 2 ^ 63 → to_z w64 (of_z w64 (made k d)) ≡ k *ℤ d
+made_is k d g f h = to_z-of_z w64 (made k d) (made_fits k d g f h) ∙ read_product k d g f

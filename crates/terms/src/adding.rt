@@ -1,38 +1,115 @@
-ghost use Rattle.std.specs.Prelude.{◌≡◌, ◌+◌, ◌*◌, true, length, take};
+ghost use Rattle.std.specs.Prelude.{◌≡◌, ℕ, Bool, ◌+◌, ◌*◌, true, List, length, take};
 ghost use Rattle.terms.specs.Sets.{number_of};
-ghost use Rattle.terms.specs.Forms.{insert, add_scaled, add_product};
+ghost use Rattle.terms.specs.Forms.{Form, insert, add_all, scaled, add_scaled, add_product};
 ghost use Rattle.terms.specs.Records.{form_in, Held, Merged, term_fits, scaled_fits, product_fits};
+ghost use Rattle.terms.specs.declared.term.Term.{Term};
 
-use super::merging::{put_product, put_scaled, put_term};
-use super::room::{product_fits, scaled_fits, term_fits};
+use super::addends::{Multiple, Product};
+use super::merging::put_term;
+use super::room::{are_light, has_room, is_bearable, is_factor, is_light, is_small};
 use super::sets::EMPTY;
 use super::term::Term;
+
+// What can be added to a form that the first of some records hold.
+trait Addend {
+    // Whether it is small enough, and the records are enough.
+    ghost fitting: { Self → List Term → ℕ → Bool };
+
+    // How many terms it brings at most.
+    ghost terms: { Self → ℕ };
+
+    // A form, with it added.
+    ghost onto: { Self → Form → Form };
+
+    fn fits(&self, work: &[Term], used: usize) -> bool
+        ensures { result ≡ fitting self.now work.now used };
+
+    fn put(&self, work: &mut [Term], used: usize) -> usize
+        requires { fitting self.now work.old used ≡ true }
+        ensures { Held (used + terms self.now) (onto self.now (form_in (take used work.old))) work.old work.new result };
+}
+
+impl Addend for Term {
+    ghost fitting = { λ t ts used. term_fits ts used t.coefficient };
+
+    ghost terms = { λ t. 1 };
+
+    ghost onto = { λ t p. insert (number_of t.set) t.coefficient p };
+
+    fn fits(&self, work: &[Term], used: usize) -> bool {
+        is_bearable(work, used) && used < work.len() && is_small(self.coefficient)
+    }
+
+    fn put(&self, work: &mut [Term], used: usize) -> usize {
+        put_term(work, used, *self)
+    }
+}
+
+impl Addend for Multiple<'_> {
+    ghost fitting = { λ m ts used. scaled_fits ts used m.factor m.form.now };
+
+    ghost terms = { λ m. length m.form.now };
+
+    ghost onto = { λ m p. add_all p (scaled (number_of m.set.now) m.factor (form_in m.form.now)) };
+
+    fn fits(&self, work: &[Term], used: usize) -> bool {
+        is_bearable(work, used)
+            && self.form.len() <= work.len() - used
+            && is_factor(self.factor)
+            && is_light(self.form)
+    }
+
+    fn put(&self, work: &mut [Term], used: usize) -> usize {
+        self.put_into(work, used)
+    }
+}
+
+impl Addend for Product<'_> {
+    ghost fitting = { λ m ts used. product_fits ts used m.factor m.one.now m.other.now };
+
+    ghost terms = { λ m. length m.one.now * length m.other.now };
+
+    ghost onto = { λ m p. add_product m.factor p (form_in m.one.now) (form_in m.other.now) };
+
+    fn fits(&self, work: &[Term], used: usize) -> bool {
+        is_bearable(work, used)
+            && has_room(work.len(), used as u128, self.one.len(), self.other.len())
+            && is_factor(self.factor)
+            && are_light(self.one, self.other)
+    }
+
+    fn put(&self, work: &mut [Term], used: usize) -> usize {
+        self.put_into(work, used)
+    }
+}
+
+// Adds to the form in the first `used` records, and answers how many it then has; refused where it may not fit.
+fn add<A: Addend>(work: &mut [Term], used: usize, addend: &A) -> Option<usize>
+    ensures { Merged (A.fitting addend.now work.old used) (used + A.terms addend.now) (A.onto addend.now (form_in (take used work.old))) work.old work.new result }
+{
+    if !addend.fits(work, used) {
+        return None;
+    }
+    Some(addend.put(work, used))
+}
 
 // Adds a term to the form in the first `used` records, and answers how many it then has; refused where it may not fit.
 pub fn add_term(work: &mut [Term], used: usize, term: Term) -> Option<usize>
     ensures { Merged (term_fits work.old used term.coefficient) (used + 1) (insert (number_of term.set) term.coefficient (form_in (take used work.old))) work.old work.new result }
 {
-    if !term_fits(work, used, term.coefficient) {
-        return None;
-    }
-    Some(put_term(work, used, term))
+    add(work, used, &term)
 }
 
 // Adds a multiple of a form to the form in the first `used` records, and answers how many it then has.
 pub fn add_scaled(work: &mut [Term], used: usize, factor: i64, form: &[Term]) -> Option<usize>
     ensures { Merged (scaled_fits work.old used factor form.now) (used + length form.now) (add_scaled factor (form_in (take used work.old)) (form_in form.now)) work.old work.new result }
 {
-    if !scaled_fits(work, used, factor, form) {
-        return None;
-    }
-    Some(scaled_onto(work, used, factor, form))
-}
-
-fn scaled_onto(work: &mut [Term], used: usize, factor: i64, form: &[Term]) -> usize
-    requires { scaled_fits work.old used factor form.now ≡ true }
-    ensures { Held (used + length form.now) (add_scaled factor (form_in (take used work.old)) (form_in form.now)) work.old work.new result }
-{
-    put_scaled(work, used, &EMPTY, factor, form)
+    let multiple = Multiple {
+        set: &EMPTY,
+        factor,
+        form,
+    };
+    add(work, used, &multiple)
 }
 
 // Adds a multiple of a product to the form in the first `used` records, and answers how many it then has.
@@ -45,15 +122,5 @@ pub fn add_product(
 ) -> Option<usize>
     ensures { Merged (product_fits work.old used factor one.now other.now) (used + length one.now * length other.now) (add_product factor (form_in (take used work.old)) (form_in one.now) (form_in other.now)) work.old work.new result }
 {
-    if !product_fits(work, used, factor, one, other) {
-        return None;
-    }
-    Some(product_onto(work, used, factor, one, other))
-}
-
-fn product_onto(work: &mut [Term], used: usize, factor: i64, one: &[Term], other: &[Term]) -> usize
-    requires { product_fits work.old used factor one.now other.now ≡ true }
-    ensures { Held (used + length one.now * length other.now) (add_product factor (form_in (take used work.old)) (form_in one.now) (form_in other.now)) work.old work.new result }
-{
-    put_product(work, used, factor, one, other)
+    add(work, used, &Product { factor, one, other })
 }

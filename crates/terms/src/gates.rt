@@ -3,7 +3,8 @@ ghost use Rattle.terms.specs.Forms.{add_all, add_product, not_form, and_form, or
 ghost use Rattle.terms.specs.Laws.{differ};
 ghost use Rattle.terms.specs.Records.{form_in, gate_fits, product_room, sum_room, Held, Formed, WorkedOut};
 
-use super::merging::{put_form, put_product, put_scaled};
+use super::addends::{Multiple, Product};
+use super::merging::put_form;
 use super::room::{and_fits, not_fits, or_fits};
 use super::sets::EMPTY;
 use super::term::Term;
@@ -56,14 +57,24 @@ fn negation(form: &[Term], work: &mut [Term]) -> usize
         set: EMPTY,
         coefficient: 1,
     };
-    put_scaled(work, 1, &EMPTY, -1, form)
+    let less = Multiple {
+        set: &EMPTY,
+        factor: -1,
+        form,
+    };
+    less.put_into(work, 1)
 }
 
 fn conjunction(one: &[Term], other: &[Term], work: &mut [Term]) -> usize
     requires { gate_fits (product_room one.now other.now) work.old one.now other.now ≡ true }
     ensures { Formed (product_room one.now other.now) and_form (λ a b. a && b) one.now other.now work.old work.new result }
 {
-    put_product(work, 0, 1, one, other)
+    let product = Product {
+        factor: 1,
+        one,
+        other,
+    };
+    product.put_into(work, 0)
 }
 
 fn disjunction(one: &[Term], other: &[Term], work: &mut [Term]) -> usize
@@ -87,6 +98,11 @@ fn sum_and_product(factor: i64, one: &[Term], other: &[Term], work: &mut [Term])
     ensures { Held (sum_room one.now other.now) (add_product factor (add_all (form_in one.now) (form_in other.now)) (form_in one.now) (form_in other.now)) work.old work.new result }
 {
     let copied = put_form(work, one);
-    let used = put_scaled(work, copied, &EMPTY, 1, other);
-    put_product(work, used, factor, one, other)
+    let second = Multiple {
+        set: &EMPTY,
+        factor: 1,
+        form: other,
+    };
+    let used = second.put_into(work, copied);
+    Product { factor, one, other }.put_into(work, used)
 }

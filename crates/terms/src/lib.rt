@@ -1,5 +1,6 @@
 #![tactic(auto)]
 
+mod addends;
 pub mod adding;
 pub mod gates;
 pub mod laws;

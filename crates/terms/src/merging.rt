@@ -4,20 +4,19 @@ ghost use Rattle.terms.specs.Forms.{insert, norm, add_all, scaled, add_product};
 ghost use Rattle.terms.specs.Records.{entry_of, form_in, term_of, Held};
 ghost use Rattle.terms.specs.Editing.{Placed, opened, closed};
 
-use super::sets::{before, join};
+use super::addends::{Multiple, Product};
+use super::sets::{Set, before, join};
 use super::term::Term;
 
 // The first place, of the first `used`, whose set does not come before `set`.
-fn place(work: &[Term], used: usize, set: &[u8; 16]) -> usize
+fn place(work: &[Term], used: usize, set: &Set) -> usize
     requires { used ≤ length work.now }
     ensures { Placed (number_of set.now) used work.now result }
 {
-    for i in 0..used {
-        if !before(&work[i].set, set) {
-            return i;
-        }
-    }
-    used
+    work[0..used]
+        .iter()
+        .position(|t| !before(&t.set, set))
+        .unwrap_or(used)
 }
 
 // Puts `t` at place `i` of the first `used` records, which move up by one from there.
@@ -25,12 +24,8 @@ fn open_at(work: &mut [Term], used: usize, i: usize, t: Term)
     requires { (used < length work.old) × (i ≤ used) }
     ensures { work.new ≡ opened work.old used i t }
 {
-    let mut carry = t;
-    for k in i..used + 1 {
-        let old = work[k];
-        work[k] = carry;
-        carry = old;
-    }
+    work.copy_within(i..used, i + 1);
+    work[i] = t;
 }
 
 // Takes the record at place `i` of the first `used` out: those above it move down by one.
@@ -38,9 +33,7 @@ fn close_at(work: &mut [Term], used: usize, i: usize)
     requires { (used ≤ length work.old) × (i < used) }
     ensures { work.new ≡ closed work.old used i }
 {
-    for k in i..used - 1 {
-        work[k] = work[k + 1];
-    }
+    work.copy_within(i + 1..used, i);
 }
 
 // Adds `t` to the form in the first `used` records, and answers how many it then has.
@@ -66,47 +59,44 @@ pub(super) fn put_term(work: &mut [Term], used: usize, t: Term) -> usize
     used + 1
 }
 
-// Adds `factor` times each term of the form, joined with `set`, to the form in the first `used` records.
-pub(super) fn put_scaled(
-    work: &mut [Term],
-    used: usize,
-    set: &[u8; 16],
-    factor: i64,
-    form: &[Term],
-) -> usize
-    requires room { used + length form.now ≤ length work.old }
-    requires fits { norm (form_in (take used work.old)) + unsigned_abs factor * norm (form_in form.now) < 2 ^ 63 }
-    ensures { Held (used + length form.now) (add_all (form_in (take used work.old)) (scaled (number_of set.now) factor (form_in form.now))) work.old work.new result }
-{
-    let mut n = used;
-    for u in form {
-        let t = Term {
-            set: join(set, &u.set),
-            coefficient: factor * u.coefficient,
-        };
-        n = put_term(work, n, t);
+impl Multiple<'_> {
+    // Adds it to the form in the first `used` records, and answers how many terms that then has.
+    pub(super) fn put_into(&self, work: &mut [Term], used: usize) -> usize
+        requires room { used + length self.now.form.now ≤ length work.old }
+        requires fits { norm (form_in (take used work.old)) + unsigned_abs self.now.factor * norm (form_in self.now.form.now) < 2 ^ 63 }
+        ensures { Held (used + length self.now.form.now) (add_all (form_in (take used work.old)) (scaled (number_of self.now.set.now) self.now.factor (form_in self.now.form.now))) work.old work.new result }
+    {
+        let mut n = used;
+        for u in self.form {
+            let t = Term {
+                set: join(self.set, &u.set),
+                coefficient: self.factor * u.coefficient,
+            };
+            n = put_term(work, n, t);
+        }
+        n
     }
-    n
 }
 
-// Adds `factor` times the product of two forms to the form in the first `used` records.
-pub(super) fn put_product(
-    work: &mut [Term],
-    used: usize,
-    factor: i64,
-    one: &[Term],
-    other: &[Term],
-) -> usize
-    requires room { used + length one.now * length other.now ≤ length work.old }
-    requires fits { norm (form_in (take used work.old)) + unsigned_abs factor * norm (form_in one.now) * norm (form_in other.now) < 2 ^ 63 }
-    requires small { unsigned_abs factor * norm (form_in one.now) < 2 ^ 63 }
-    ensures { Held (used + length one.now * length other.now) (add_product factor (form_in (take used work.old)) (form_in one.now) (form_in other.now)) work.old work.new result }
-{
-    let mut n = used;
-    for t in one {
-        n = put_scaled(work, n, &t.set, factor * t.coefficient, other);
+impl Product<'_> {
+    // Adds it to the form in the first `used` records, and answers how many terms that then has.
+    pub(super) fn put_into(&self, work: &mut [Term], used: usize) -> usize
+        requires room { used + length self.now.one.now * length self.now.other.now ≤ length work.old }
+        requires fits { norm (form_in (take used work.old)) + unsigned_abs self.now.factor * norm (form_in self.now.one.now) * norm (form_in self.now.other.now) < 2 ^ 63 }
+        requires small { unsigned_abs self.now.factor * norm (form_in self.now.one.now) < 2 ^ 63 }
+        ensures { Held (used + length self.now.one.now * length self.now.other.now) (add_product self.now.factor (form_in (take used work.old)) (form_in self.now.one.now) (form_in self.now.other.now)) work.old work.new result }
+    {
+        let mut n = used;
+        for t in self.one {
+            let row = Multiple {
+                set: &t.set,
+                factor: self.factor * t.coefficient,
+                form: self.other,
+            };
+            n = row.put_into(work, n);
+        }
+        n
     }
-    n
 }
 
 // Writes a form's records over the first of `work`, and answers how many.
@@ -116,8 +106,8 @@ pub(super) fn put_form(work: &mut [Term], form: &[Term]) -> usize
     ensures whole { work.new ≡ form.now ++ drop (length form.now) work.old }
     ensures terms { work.new ≡ map term_of (form_in form.now) ++ drop (length form.now) work.old }
 {
-    for i in 0..form.len() {
-        write(work, i, form[i]);
+    for (i, t) in form.iter().enumerate() {
+        write(work, i, *t);
     }
     form.len()
 }

@@ -4,22 +4,22 @@ ghost use Rattle.terms.specs.Forms.{Rising, high, value, same};
 ghost use Rattle.terms.specs.Laws.{Alike};
 ghost use Rattle.terms.specs.Records.{form_in};
 
-use super::sets::{all_high, number};
+use super::sets::{Set, all_high, number};
 use super::term::Term;
 
 // What a form comes to in a row of free wire values, given as the set of the high wires.
-pub fn value(form: &[Term], row: &[u8; 16]) -> i128
+pub fn value(form: &[Term], row: &Set) -> i128
     ensures { result ≡ value (form_in form.now) (number_of row.now) }
 {
     let mut sum: i128 = 0;
     for t in form {
-        sum += share(t, row) as i128;
+        sum += i128::from(share(t, row));
     }
     sum
 }
 
 // What a term adds: its coefficient where its wires are all high.
-fn share(t: &Term, row: &[u8; 16]) -> i64
+fn share(t: &Term, row: &Set) -> i64
     ensures { result ≡ (if high (number_of t.now.set) (number_of row.now) then t.now.coefficient else pos 0) }
 {
     if all_high(&t.set, row) {
@@ -54,12 +54,7 @@ fn matching(one: &[Term], other: &[Term]) -> bool
     if one.len() != other.len() {
         return false;
     }
-    for i in 0..one.len() {
-        if !same_term(&one[i], &other[i]) {
-            return false;
-        }
-    }
-    true
+    one.iter().zip(other).all(|(t, u)| same_term(t, u))
 }
 
 fn same_term(one: &Term, other: &Term) -> bool

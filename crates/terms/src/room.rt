@@ -1,6 +1,6 @@
 ghost use Rattle.std.specs.Prelude.{◌≡◌, ◌+◌, ◌*◌, ◌^◌, ◌<◌, ◌≤◌, ◌&&◌, length, nat_le, nat_lt, unsigned_abs};
 ghost use Rattle.terms.specs.Forms.{norm};
-ghost use Rattle.terms.specs.Records.{form_in, light, bearable, term_fits, scaled_fits, product_fits, gate_fits, product_room, sum_room};
+ghost use Rattle.terms.specs.Records.{form_in, light, bearable, gate_fits, product_room, sum_room};
 
 use super::term::Term;
 
@@ -28,69 +28,47 @@ fn below(form: &[Term], limit: u64) -> bool
     true
 }
 
-fn is_light(form: &[Term]) -> bool
+// Whether a form can be an operand.
+pub(super) fn is_light(form: &[Term]) -> bool
     ensures { result ≡ light form.now }
 {
     below(form, LIGHT)
 }
 
-fn are_light(one: &[Term], other: &[Term]) -> bool
+// Whether two forms can be operands.
+pub(super) fn are_light(one: &[Term], other: &[Term]) -> bool
     ensures { result ≡ (light one.now && light other.now) }
 {
     is_light(one) && is_light(other)
 }
 
-fn is_bearable(work: &[Term], used: usize) -> bool
+// Whether something can be added to the form in the first `used` records.
+pub(super) fn is_bearable(work: &[Term], used: usize) -> bool
     ensures { result ≡ bearable work.now used }
 {
     used <= work.len() && below(&work[0..used], BEARABLE)
 }
 
-fn is_factor(factor: i64) -> bool
+// Whether an operand may be added so often.
+pub(super) fn is_factor(factor: i64) -> bool
     ensures { result ≡ nat_le (unsigned_abs factor) 2 }
 {
     factor.unsigned_abs() <= OFTEN
 }
 
+// Whether a term with the coefficient can be added.
+pub(super) fn is_small(coefficient: i64) -> bool
+    ensures { result ≡ nat_lt (unsigned_abs coefficient) (2 ^ 62) }
+{
+    coefficient.unsigned_abs() < BEARABLE
+}
+
 // Whether so many records suffice for those used and a product.
-fn has_room(records: usize, used: u128, one: usize, other: usize) -> bool
+pub(super) fn has_room(records: usize, used: u128, one: usize, other: usize) -> bool
     requires { used + 2 ≤ 2 ^ 65 }
     ensures { result ≡ nat_le (used + one * other) records }
 {
     used + one as u128 * other as u128 <= records as u128
-}
-
-// Whether a term can be added to the first `used` records.
-pub(super) fn term_fits(work: &[Term], used: usize, coefficient: i64) -> bool
-    ensures { result ≡ term_fits work.now used coefficient }
-{
-    is_bearable(work, used) && used < work.len() && coefficient.unsigned_abs() < BEARABLE
-}
-
-// Whether a multiple of a form can be added to the first `used` records.
-pub(super) fn scaled_fits(work: &[Term], used: usize, factor: i64, form: &[Term]) -> bool
-    ensures { result ≡ scaled_fits work.now used factor form.now }
-{
-    is_bearable(work, used)
-        && form.len() <= work.len() - used
-        && is_factor(factor)
-        && is_light(form)
-}
-
-// Whether a multiple of a product can be added to the first `used` records.
-pub(super) fn product_fits(
-    work: &[Term],
-    used: usize,
-    factor: i64,
-    one: &[Term],
-    other: &[Term],
-) -> bool
-    ensures { result ≡ product_fits work.now used factor one.now other.now }
-{
-    is_bearable(work, used)
-        && has_room(work.len(), used as u128, one.len(), other.len())
-        && is_factor(factor)
-        && are_light(one, other)
 }
 
 // Whether NOT of a form can be worked out in the records.

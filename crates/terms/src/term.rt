@@ -1,6 +1,9 @@
-// A term (monomial) with its coefficient. A set of free wires is sixteen bytes: wire n is bit n mod 8, lowest first, of byte n div 8.
-#[derive(Clone, Copy)]
+use super::sets::Set;
+
+// A term (monomial), a set of free wires, with its coefficient. By default it is a record that holds nothing yet: no term of a form has the
+// coefficient 0.
+#[derive(Clone, Copy, Debug, Default, PartialEq, Eq)]
 pub struct Term {
-    pub set: [u8; 16],
+    pub set: Set,
     pub coefficient: i64,
 }

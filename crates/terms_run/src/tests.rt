@@ -2,13 +2,7 @@ ghost use Rattle.std.specs.Prelude.{◌≤◌};
 
 use std::process::Abort;
 use std::test::Fail;
-use terms::sets::EMPTY;
 use terms::{Term, alone, and_form, not_form, or_form, same, value, xor_form};
-
-const BLANK: Term = Term {
-    set: EMPTY,
-    coefficient: 0,
-};
 
 // A form of at most 32 terms.
 #[derive(Clone, Copy)]
@@ -28,10 +22,8 @@ impl Form {
 fn kept(rt: &impl Abort, work: &[Term], count: Option<usize>) -> Result<Form, Fail> {
     let count = count.ok_or("refused")?;
     assert!(rt; count <= 32 && count <= work.len());
-    let mut terms = [BLANK; 32];
-    for i in 0..count {
-        terms[i] = work[i];
-    }
+    let mut terms = [Term::default(); 32];
+    terms[0..count].copy_from_slice(&work[0..count]);
     Ok(Form { terms, count })
 }
 
@@ -45,25 +37,25 @@ fn wire(rt: &impl Abort, n: usize) -> Result<Form, Fail> {
 }
 
 fn not(rt: &impl Abort, form: Form) -> Result<Form, Fail> {
-    let mut work = [BLANK; 624];
+    let mut work = [Term::default(); 624];
     let count = not_form(form.terms(), &mut work);
     kept(rt, &work, count)
 }
 
 fn and(rt: &impl Abort, one: Form, other: Form) -> Result<Form, Fail> {
-    let mut work = [BLANK; 624];
+    let mut work = [Term::default(); 624];
     let count = and_form(one.terms(), other.terms(), &mut work);
     kept(rt, &work, count)
 }
 
 fn or(rt: &impl Abort, one: Form, other: Form) -> Result<Form, Fail> {
-    let mut work = [BLANK; 624];
+    let mut work = [Term::default(); 624];
     let count = or_form(one.terms(), other.terms(), &mut work);
     kept(rt, &work, count)
 }
 
 fn xor(rt: &impl Abort, one: Form, other: Form) -> Result<Form, Fail> {
-    let mut work = [BLANK; 624];
+    let mut work = [Term::default(); 624];
     let count = xor_form(one.terms(), other.terms(), &mut work);
     kept(rt, &work, count)
 }
@@ -142,7 +134,25 @@ fn values_and_refusals(rt: HostRuntime) -> Result<(), Fail> {
         ),
         0
     );
-    let mut short = [BLANK; 2];
+    let mut short = [Term::default(); 2];
     assert_eq!(rt; xor_form(x.terms(), y.terms(), &mut short), None);
+    Ok(())
+}
+
+// Terms are equal where both the set and the coefficient are.
+#[test]
+fn terms_compare(rt: HostRuntime) -> Result<(), Fail> {
+    let set = alone(9).ok_or("no such wire")?;
+    let once = Term {
+        set,
+        coefficient: 1,
+    };
+    let twice = Term {
+        set,
+        coefficient: 2,
+    };
+    assert_eq!(rt; wire(&rt, 9)?.terms(), [once].as_slice());
+    assert!(rt; once != twice);
+    assert!(rt; once != Term::default());
     Ok(())
 }

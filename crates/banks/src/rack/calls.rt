@@ -17,7 +17,7 @@ impl Rack {
     pub fn new(belts: usize, places: u8, width: u8) -> Self
         ensures { rack_of result ≡ racked belts places width }
     {
-        Rack::alike(PackedRow::new(places, width), belts.min(MOST).max(1))
+        Rack::alike(PackedRow::new(places, width), belts.clamp(1, MOST))
     }
 
     // A row, as many times as told.
@@ -35,11 +35,7 @@ impl Rack {
     fn row(&self, i: usize) -> Option<PackedRow>
         ensures { MatchOption result (Past (rack_of self.now) i) (λ row. numbered (rack_of self.now) i ≡ row_of row) }
     {
-        if i < self.size {
-            Some(self.rows[i])
-        } else {
-            None
-        }
+        self.rows[0..self.size].get(i).copied()
     }
 
     // Another row under a number; past the end nothing changes.
@@ -64,53 +60,35 @@ impl Bank for Rack {
     }
 
     fn places(&self, i: usize) -> u16 {
-        match self.row(i) {
-            Some(row) => row.places(),
-            None => 0,
-        }
+        self.row(i).map_or(0, |row| row.places())
     }
 
     fn width(&self, i: usize) -> u8 {
-        match self.row(i) {
-            Some(row) => row.width(),
-            None => 0,
-        }
+        self.row(i).map_or(0, |row| row.width())
     }
 
     fn count(&self, i: usize) -> u16 {
-        match self.row(i) {
-            Some(row) => row.count(),
-            None => 0,
-        }
+        self.row(i).map_or(0, |row| row.count())
     }
 
     fn head(&self, i: usize) -> Option<u8> {
-        match self.row(i) {
-            Some(row) => row.head(),
-            None => None,
-        }
+        self.row(i)?.head()
     }
 
     fn put(&mut self, i: usize, word: u8) -> bool {
-        match self.row(i) {
-            Some(mut row) => {
-                let said = row.put(word);
-                self.store(i, row);
-                said
-            }
-            None => false,
-        }
+        let Some(mut row) = self.row(i) else {
+            return false;
+        };
+        let said = row.put(word);
+        self.store(i, row);
+        said
     }
 
     fn take(&mut self, i: usize) -> Option<u8> {
-        match self.row(i) {
-            Some(mut row) => {
-                let word = row.take();
-                self.store(i, row);
-                word
-            }
-            None => None,
-        }
+        let mut row = self.row(i)?;
+        let word = row.take();
+        self.store(i, row);
+        word
     }
 
     fn clear(&mut self, i: usize) {

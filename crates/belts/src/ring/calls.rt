@@ -4,8 +4,7 @@ ghost use Rattle.belts.specs.Layouts.{ring_of, after};
 ghost use Rattle.std.proofs.Common.{rules};
 
 use super::Ring;
-use crate::belt::Belt;
-use crate::store::{Store, head_of, put_into, take_from};
+use crate::store::{Store, nearest};
 
 // The place after one, going round.
 fn after_place(places: u8, at: u8) -> u8
@@ -20,10 +19,11 @@ impl Ring {
     pub fn new(places: u8, width: u8) -> Self
         ensures { ring_of result ≡ made places width }
     {
+        let (places, width) = nearest(places, width);
         Ring {
             cells: [0; 16],
-            places: places.min(16).max(1),
-            width: width.min(4),
+            places,
+            width,
             enter: 0,
             leave: 0,
             full: false,
@@ -34,7 +34,7 @@ impl Ring {
 impl Store for Ring {
     ghost stored = { ring_of };
 
-    ghost narrow = { Prim.search rules };
+    ghost within = { Prim.search rules };
 
     fn capacity(&self) -> u8 {
         self.places
@@ -56,12 +56,12 @@ impl Store for Ring {
 
     // The word at the exit place.
     fn oldest(&self) -> u8 {
-        self.cells[self.leave as usize]
+        self.cells[usize::from(self.leave)]
     }
 
     // Writes at the entry place and goes on to the next.
     fn append(&mut self, word: u8) {
-        self.cells[self.enter as usize] = word;
+        self.cells[usize::from(self.enter)] = word;
         self.enter = after_place(self.places, self.enter);
         self.full = self.enter == self.leave;
     }
@@ -71,38 +71,9 @@ impl Store for Ring {
         self.leave = after_place(self.places, self.leave);
         self.full = false;
     }
-}
 
-impl Belt for Ring {
-    ghost model = { ring_of };
-
-    ghost small = { Prim.search rules };
-
-    fn places(&self) -> u16 {
-        self.places as u16
-    }
-
-    fn width(&self) -> u8 {
-        self.width
-    }
-
-    fn count(&self) -> u16 {
-        self.held() as u16
-    }
-
-    fn head(&self) -> Option<u8> {
-        head_of(self)
-    }
-
-    fn put(&mut self, word: u8) -> bool {
-        put_into(self, word)
-    }
-
-    fn take(&mut self) -> Option<u8> {
-        take_from(self)
-    }
-
-    fn clear(&mut self) {
+    // The entry place is the exit place again.
+    fn empty(&mut self) {
         self.enter = self.leave;
         self.full = false;
     }

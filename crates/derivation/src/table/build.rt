@@ -2,21 +2,13 @@ ghost use Rattle.std.specs.Prelude.{◌≡◌, ◌*◌, MatchResult};
 ghost use Rattle.sheet.specs.Views.{nodes_in};
 ghost use Rattle.derivation.specs.Tables.{rows_in, Tabled, Untabled};
 
-use crate::columns::collect;
-use crate::flow::WORK;
-use crate::rows::fill_rows;
+use crate::columns::FOUND;
+use crate::flow::{WORK, Worked};
 use crate::table::Table;
 use forms::Forms;
 use sheet::fault::Fault;
 use sheet::sheet::Sheet;
 use terms::Term;
-use terms::sets::EMPTY;
-
-// A record that holds nothing yet.
-const BLANK: Term = Term {
-    set: EMPTY,
-    coefficient: 0,
-};
 
 impl Table {
     // The table of a sheet's belts, or the limit that a gate's form or the number of columns passes.
@@ -24,20 +16,16 @@ impl Table {
         ensures { MatchResult result (Tabled (nodes_in sheet.now)) (Untabled (nodes_in sheet.now)) }
     {
         let forms = Forms::of(sheet)?;
-        let nodes = sheet.nodes();
-        let belts = sheet.belts();
-        let mut found = [BLANK; 257];
-        let mut work = [BLANK; WORK];
-        let columns = collect(nodes, &forms, belts, &mut found, &mut work)?;
+        let worked = Worked {
+            sheet,
+            forms: &forms,
+        };
+        let mut found = [Term::default(); FOUND];
+        let mut work = [Term::default(); WORK];
+        let columns = worked.collect(&mut found, &mut work)?;
         let mut numbers = [0; 8192];
-        fill_rows(
-            nodes,
-            &forms,
-            belts,
-            &found[0..columns],
-            &mut numbers,
-            &mut work,
-        );
+        worked.fill_rows(&found[0..columns], &mut numbers, &mut work);
+        let belts = sheet.belts();
         Ok(Table {
             belts,
             columns,

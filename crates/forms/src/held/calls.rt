@@ -3,10 +3,10 @@ ghost use Rattle.sheet.specs.Views.{nodes_in};
 ghost use Rattle.terms.specs.Records.{form_in, light};
 ghost use Rattle.forms.specs.Slots.{forms_in, Allowed, Refused};
 
-use crate::filling::fill;
+use crate::filling::steps::fill;
 use crate::held::Forms;
 use crate::slot::Slot;
-use crate::slot::access::{UNREAD, operand};
+use crate::slot::access::operand;
 use sheet::fault::Fault;
 use sheet::sheet::Sheet;
 use terms::Term;
@@ -17,7 +17,7 @@ impl Forms {
         ensures { MatchResult result (λ f. Allowed (nodes_in sheet.now) (forms_in f)) (Refused (nodes_in sheet.now)) }
     {
         let mut slots = [Slot::none(); 640];
-        let mut work = [UNREAD; 624];
+        let mut work = [Term::default(); 624];
         let nodes = sheet.nodes();
         fill(nodes, &mut slots, &mut work)?;
         Ok(Forms {
@@ -32,7 +32,6 @@ impl Forms {
         ensures few { length result.now ≤ 24 }
         ensures easy { light result.now ≡ true }
     {
-        let len = self.len;
-        operand(&self.slots[0..len], line)
+        operand(&self.slots[..self.len], line)
     }
 }

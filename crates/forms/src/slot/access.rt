@@ -6,13 +6,6 @@ ghost use Rattle.forms.specs.Slots.{slot_form, slot_forms};
 
 use crate::slot::Slot;
 use terms::Term;
-use terms::sets::EMPTY;
-
-// A record that holds nothing yet.
-pub(crate) const UNREAD: Term = Term {
-    set: EMPTY,
-    coefficient: 0,
-};
 
 impl Slot {
     // The form without terms.
@@ -20,7 +13,7 @@ impl Slot {
         ensures { slot_form result ≡ [] }
     {
         Slot {
-            terms: [UNREAD; 24],
+            terms: [Term::default(); 24],
             len: 0,
         }
     }
@@ -29,7 +22,7 @@ impl Slot {
     pub(crate) fn wire(set: [u8; 16]) -> Slot
         ensures { slot_form result ≡ (number_of set, pos 1) ∷ [] }
     {
-        let mut terms = [UNREAD; 24];
+        let mut terms = [Term::default(); 24];
         terms[0] = Term {
             set,
             coefficient: 1,
@@ -55,21 +48,18 @@ impl Slot {
         ensures few { length result.now ≤ 24 }
         ensures easy { light result.now ≡ true }
     {
-        let len = self.len;
-        &self.terms[0..len]
+        &self.terms[..self.len]
     }
 }
 
-// A form's terms, followed by unread ones.
+// A form's terms, followed by ones without value.
 fn copied(form: &[Term]) -> [Term; 24]
     requires { length form.now ≤ 24 }
     ensures front { take (length form.now) result ≡ form.now }
     ensures whole { length result ≡ 24 }
 {
-    let mut terms = [UNREAD; 24];
-    for i in 0..form.len() {
-        terms[i] = form[i];
-    }
+    let mut terms = [Term::default(); 24];
+    terms[..form.len()].copy_from_slice(form);
     terms
 }
 

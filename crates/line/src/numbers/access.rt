@@ -21,7 +21,7 @@ impl Numbers {
     pub(crate) fn bits_of(&self, b: usize) -> usize
         ensures { result ≡ slice_index self.now.bits b }
     {
-        if b < 32 { self.bits[b] } else { 0 }
+        self.bits.get(b).copied().unwrap_or(0)
     }
 
     // One more bit line of belt `belt`; past the last belt it is not counted.

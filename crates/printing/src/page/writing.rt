@@ -32,9 +32,10 @@ impl Page {
         requires { length (text_on self.old) + length text.now ≤ 9504 }
         ensures { text_on self.new ≡ text_on self.old ++ text.now }
     {
-        for byte in text {
-            self.push(*byte);
-        }
+        let at = self.len;
+        let end = at + text.len();
+        self.bytes[at..end].copy_from_slice(text);
+        self.len = end;
     }
 
     // A line feed, which ends every line.
@@ -73,10 +74,7 @@ impl Page {
     {
         let len = self.len;
         if text.len() < len {
-            return Err(Fault {
-                refusal: Refusal::ShortText,
-                place: 0,
-            });
+            return Err(Refusal::ShortText.into());
         }
         text[0..len].copy_from_slice(&self.bytes[0..len]);
         Ok(len)

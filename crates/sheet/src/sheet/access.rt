@@ -1,5 +1,5 @@
 ghost use Rattle.std.specs.Prelude.{◌≡◌, ◌<◌, ◌≤◌, [], length, count_by, MatchOption, slice_index_or};
-ghost use Rattle.sheet.specs.Nodes.{is_belt, is_free, is_of, count_of};
+ghost use Rattle.sheet.specs.Nodes.{is_belt, is_free, count_of, wire_at};
 ghost use Rattle.sheet.specs.Rules.{Lawful};
 ghost use Rattle.sheet.specs.Views.{nodes_in};
 ghost use Rattle.sheet.specs.declared.class.Class.TheVariants as Of;
@@ -7,46 +7,16 @@ ghost use Rattle.sheet.specs.declared.node.Node.TheVariants as Line;
 ghost use Rattle.sheet.specs.declared.node.Source.TheVariants as Wire;
 
 use crate::class::Class;
-use crate::node::{Gate, Node, Source};
-use crate::rules::{is_belt, is_free};
+use crate::node::{Node, Source};
+use crate::rules::is_wire;
 use crate::sheet::Sheet;
-
-// Whether a node is of a class.
-fn is_of(class: Class, node: Node) -> bool
-    ensures { result ≡ is_of class node }
-{
-    match class {
-        Class::Free => is_free(node),
-        Class::Sensor => matches!(node, Node::Free(Source::Sensor)),
-        Class::Flop => matches!(node, Node::Free(Source::Flop { .. })),
-        Class::Belt => is_belt(node),
-        Class::Low => matches!(node, Node::Gate(Gate::Constant(false))),
-        Class::High => matches!(node, Node::Gate(Gate::Constant(true))),
-        Class::Not => matches!(node, Node::Gate(Gate::Not { .. })),
-        Class::And => matches!(node, Node::Gate(Gate::And { .. })),
-        Class::Or => matches!(node, Node::Gate(Gate::Or { .. })),
-        Class::Xor => matches!(node, Node::Gate(Gate::Xor { .. })),
-    }
-}
+use std::fmt::{self, Debug};
 
 // How many nodes are of a class.
 fn count_of(class: Class, nodes: &[Node]) -> usize
     ensures { result ≡ count_of class nodes.now }
 {
-    let mut n: usize = 0;
-    for node in nodes {
-        n += usize::from(is_of(class, *node));
-    }
-    n
-}
-
-// The first `len` nodes of the table, which are the sheet's.
-fn first_nodes(sheet: &Sheet, len: usize) -> &[Node]
-    requires { len ≡ sheet.now.len }
-    ensures same { result.now ≡ nodes_in sheet.now }
-    ensures lawful { Lawful result.now }
-{
-    &sheet.nodes[0..len]
+    nodes.iter().filter(|node| node.is_of(class)).count()
 }
 
 impl Sheet {
@@ -65,7 +35,7 @@ impl Sheet {
         ensures same { result.now ≡ nodes_in self.now }
         ensures lawful { Lawful result.now }
     {
-        first_nodes(self, self.len)
+        &self.nodes[..self.len]
     }
 
     // How many lines the sheet has.
@@ -79,12 +49,14 @@ impl Sheet {
     pub fn node(&self, i: usize) -> Option<Node>
         ensures { MatchOption result (length (nodes_in self.now) ≤ i) (λ n. (i < length (nodes_in self.now)) × (n ≡ slice_index_or (nodes_in self.now) i (Line.Free Wire.Sensor))) }
     {
-        let nodes = self.nodes();
-        if i < nodes.len() {
-            Some(nodes[i])
-        } else {
-            None
-        }
+        self.nodes().get(i).copied()
+    }
+
+    // Whether a wire stands at a line.
+    pub fn is_wire(&self, line: u16) -> bool
+        ensures { result ≡ wire_at (nodes_in self.now) line }
+    {
+        is_wire(self.nodes(), line)
     }
 
     // How many lines are of a class.
@@ -120,5 +92,11 @@ impl Sheet {
         ensures { result ≡ count_by is_free (nodes_in self.now) }
     {
         self.count(Class::Free)
+    }
+}
+
+impl Debug for Sheet {
+    fn fmt<W: fmt::Write>(&self, f: &mut fmt::Formatter<W>) -> fmt::Result {
+        f.debug_list().entries(self.nodes()).finish()
     }
 }

@@ -1,24 +1,22 @@
 ghost use Rattle.std.specs.Prelude.{◌≡◌, ◌≤◌, length, take, count_by};
-ghost use Rattle.sheet.specs.Nodes.{is_belt, is_free, is_room_of, is_item_of, is_bit_of};
+ghost use Rattle.sheet.specs.Nodes.{is_belt, is_free};
 ghost use Rattle.sheet.specs.Rules.{Ordered};
-ghost use Rattle.sheet.specs.Drafts.{Counts};
+ghost use Rattle.sheet.specs.Drafts.{Tallied};
 
 use crate::node::Node;
 use crate::sheet::tally::Tally;
 
 pub(crate) mod build;
 
-// The nodes read so far: the first `len` of `nodes`, with running counts of belts, of free wires, and of the room,
-// item and bit lines of each belt.
+// The nodes read so far: the first `len` of `nodes`, with running counts of belts, of free wires, and of each belt's
+// parts.
 #[derive(Clone, Copy)]
 pub(crate) struct Draft {
     nodes: [Node; 640],
     len: usize,
     belts: usize,
     free: usize,
-    rooms: Tally,
-    items: Tally,
-    bits: Tally,
+    parts: Tally,
     ghost whole: { length nodes ≡ 640 },
     ghost few: { len ≤ 640 },
     ghost counted: { belts ≡ count_by is_belt (take len nodes) },
@@ -26,7 +24,5 @@ pub(crate) struct Draft {
     ghost narrow: { belts ≤ 32 },
     ghost small: { free ≤ 128 },
     ghost ordered: { Ordered (take len nodes) },
-    ghost roomy: { Counts is_room_of (take len nodes) rooms.counts },
-    ghost laden: { Counts is_item_of (take len nodes) items.counts },
-    ghost bitten: { Counts is_bit_of (take len nodes) bits.counts },
+    ghost shared: { Tallied (take len nodes) parts.belts },
 }

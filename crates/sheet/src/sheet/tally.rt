@@ -1,38 +1,77 @@
-ghost use Rattle.std.specs.Prelude.{◌≡◌, ℕ, ◌+◌, ◌<◌, ◌≤◌, length, slice_index};
-ghost use Rattle.sheet.specs.Nodes.{is_the};
+ghost use Rattle.std.specs.Prelude.{◌≡◌, ℕ, ◌+◌, ◌<◌, ◌≤◌, length, slice_index_or};
+ghost use Rattle.sheet.specs.Drafts.{counted, no_parts, with_part};
+ghost use Rattle.sheet.specs.Parts.{is_part};
+ghost use Rattle.sheet.specs.Rules.{parts_fit};
 ghost use Rattle.sheet.specs.Wires.{bit};
+ghost use Rattle.sheet.specs.declared.parts.Part.{Part};
 
-// How many lines name each of 32 belts.
+use crate::node::Node;
+use crate::parts::Part;
+
+const MOST_BITS: u16 = 4;
+
+// How many room, item and bit lines a belt has.
+#[derive(Clone, Copy, Debug, Default, PartialEq, Eq)]
+pub(crate) struct Parts {
+    rooms: u16,
+    items: u16,
+    bits: u16,
+}
+
+impl Parts {
+    // One line more.
+    fn add(&mut self, part: Part)
+        requires { (p : Part) → counted p self.old ≤ 640 }
+        ensures { self.new ≡ with_part part self.old }
+    {
+        match part {
+            Part::Room => self.rooms += 1,
+            Part::Item => self.items += 1,
+            Part::Bit => self.bits += 1,
+        }
+    }
+
+    // Whether a belt may have so many.
+    pub(crate) fn fit(self) -> bool
+        ensures { result ≡ parts_fit self.rooms self.items self.bits }
+    {
+        self.rooms == 1 && self.items == 1 && self.bits <= MOST_BITS
+    }
+}
+
+// The parts of each of 32 belts.
 #[derive(Clone, Copy)]
 pub(crate) struct Tally {
-    counts: [u16; 32],
-    ghost whole: { length counts ≡ 32 },
+    belts: [Parts; 32],
+    ghost whole: { length belts ≡ 32 },
 }
 
 impl Tally {
     pub(crate) fn new() -> Tally
-        ensures { (b : ℕ) → slice_index result.counts b ≡ 0 }
+        ensures { (p : Part) (b : ℕ) → counted p (slice_index_or result.belts b no_parts) ≡ 0 }
     {
-        Tally { counts: [0; 32] }
+        Tally {
+            belts: [Parts::default(); 32],
+        }
     }
 
-    // One line more, which may name a belt; a number past the last belt is not counted.
-    pub(crate) fn add(&mut self, belt: Option<u16>)
-        requires { (b : ℕ) → b < 32 → slice_index self.old.counts b ≤ 640 }
-        ensures { (b : ℕ) → b < 32 → slice_index self.new.counts b ≡ slice_index self.old.counts b + bit (is_the b belt) }
+    // One line more, which may be a part of a belt; a belt past the last is not counted.
+    pub(crate) fn add(&mut self, node: Node)
+        requires { (p : Part) (b : ℕ) → b < 32 → counted p (slice_index_or self.old.belts b no_parts) ≤ 640 }
+        ensures { (p : Part) (b : ℕ) → b < 32 → counted p (slice_index_or self.new.belts b no_parts) ≡ counted p (slice_index_or self.old.belts b no_parts) + bit (is_part p b node) }
     {
-        if let Some(named) = belt {
-            let b = usize::from(named);
+        if let Some((part, belt)) = node.part() {
+            let b = usize::from(belt);
             if b < 32 {
-                self.counts[b] += 1;
+                self.belts[b].add(part);
             }
         }
     }
 
-    // How many lines name belt `b`; 0 past the last.
-    pub(crate) fn of(&self, b: usize) -> u16
-        ensures { result ≡ slice_index self.now.counts b }
+    // The parts of belt `b`; none past the last.
+    pub(crate) fn of(&self, b: usize) -> Parts
+        ensures { result ≡ slice_index_or self.now.belts b no_parts }
     {
-        if b < 32 { self.counts[b] } else { 0 }
+        self.belts.get(b).copied().unwrap_or_default()
     }
 }

@@ -6,6 +6,6 @@ use Rattle.elimination.proofs.reduce.reduce.Given as goal
 abbrev pub invariant-loop-j : goal.invariant-loop-j
 invariant-loop-j g l =
     let m = g.T.Number in
-    let k = kept_of (length l.initial.row) l.leads (map m.value l.rows) in
-    handled m.kind l.n k (length l.initial.row - l.n - l.j) l.j (map m.value l.row)
-    ≡ handled m.kind l.n k (length l.initial.row - l.n) 0 (map m.value l.initial.row)
+    let k = kept_of l.kept.size l.kept.leads.now (map m.value l.kept.rows.now) in
+    handled m.kind l.n k (length l.fn.row - l.n - l.j) l.j (map m.value l.row)
+    ≡ handled m.kind l.n k (length l.fn.row - l.n) 0 (map m.value l.fn.row)

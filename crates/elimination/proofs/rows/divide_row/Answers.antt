@@ -1,13 +1,9 @@
-use Rattle.std.proofs.Common.{arith}
-use Rattle.elimination.proofs.Fills.{mapped_more, mapped_all}
+use Rattle.std.proofs.Common.{sym, ap, ◌∙◌, arith}
+use Rattle.elimination.proofs.Fills.{mapped_more}
 use Rattle.elimination.proofs.rows.divide_row.Goals as goal
 
-pub loop-i-preserved : goal.loop-i-preserved
-loop-i-preserved g c =
+pub loop-x-preserved : goal.loop-x-preserved
+loop-x-preserved g c =
     let m = g.T.Number in
-    mapped_more m.wide (λ x. m.kind.quotient x (m.wide c.args.d)) c.args.row.now c.loop-i.row c.loop-i.i _ _ (omega arith) c.loop-i.auto.row c.index-row-i.is c.quotient.ensures c.loop-i.invariant
-
-pub returns : goal.returns
-returns g c =
-    let m = g.T.Number in
-    mapped_all m.wide (λ x. m.kind.quotient x (m.wide c.args.d)) c.args.row.now c.loop-i.row c.loop-i.i (omega arith) c.loop-i.auto.row c.loop-i.invariant
+    let e = c.quotient.ensures ∙ ap (λ y. m.kind.quotient (m.wide y) (m.wide c.args.d)) (sym c.x-item.is) in
+    mapped_more m.wide (λ x. m.kind.quotient x (m.wide c.args.d)) c.args.row.now c.loop-x.row c.loop-x.x-index _ _ (omega arith) c.loop-x.auto.row c.x-item.is e c.loop-x.invariant

@@ -1,51 +1,43 @@
-use Rattle.std.proofs.Common.{◌+◌, ◌*◌, ◌≤◌, length, sym, ap, ◌∙◌, mul-le-mul_right, arith}
+use Rattle.std.proofs.Common.{map, Ok, sym, ap, ◌∙◌, subst, arith}
+use Rattle.std.proofs.lemmas.Result.{err_from_is_err_and}
+use Rattle.elimination.specs.Memory.{rows_of}
 use Rattle.elimination.specs.Answers.{answered}
-use Rattle.elimination.proofs.Written.{fits, part_length, all_rows, all_balances, answered_rows, solved_unfit, solved_fit}
+use Rattle.elimination.specs.States.{AsWritten}
+use Rattle.elimination.proofs.Written.{all_balances, answered_rows, same_table, solved_unfit, solved_fit, fits}
 use Rattle.elimination.proofs.Readback.{exact}
 use Rattle.elimination.proofs.solve.solve.Goals as goal
 
-pub returns-then-not-sizes_fit : goal.returns-then-not-sizes_fit
-returns-then-not-sizes_fit g c =
+pub returns-in_err-table-clause-result : goal.returns-in_err-table-clause-result
+returns-in_err-table-clause-result g c =
     let a = c.args in
-    record { result = solved_unfit g.T.Number.kind a.n a.m a.coefficients.now a.weights.now c.if-not-sizes_fit.ensures; exact = tt }
+    let p = err_from_is_err_and c.from_residual.result c.from_residual.ensures.1 in
+    let u = c.in_err-table.ensures.unfit in
+    rw (p.1, p.2, u.0) (solved_unfit g.T.Number.kind a.n a.m a.coefficients.now a.weights.now u.1)
 
-pub eliminate-requires : goal.eliminate-requires
-eliminate-requires g c =
+pub returns-in_err-filed-clause-result : goal.returns-in_err-filed-clause-result
+returns-in_err-filed-clause-result g c =
     let a = c.args in
-    let f = fits a.n a.m (length a.coefficients.now) (length a.weights.now) c.if-not-sizes_fit.ensures in
-    let l : a.n + a.m ≤ 288 = omega (arith, f.few, f.narrow) in
-    record {
-      full = f.full;
-      long = part_length a.n a.m a.row.now (omega arith);
-      wide = part_length a.n a.m a.wide_row.now (omega arith);
-      led = omega arith;
-      room = omega (arith, all_rows a.n a.m f.few f.narrow);
-      place = omega (arith, all_balances a.n f.few);
-    }
+    let k = g.T.Number.kind in
+    let p = err_from_is_err_and c.from_residual-in_err-filed.result c.from_residual-in_err-filed.ensures.1 in
+    let t = c.in_ok-table.ensures.fits in
+    let h = c.in_err-filed.ensures in
+    rw (p.1, p.2, h.1) (ap (answered k a.weights.now) (sym (same_table k t.1 t.2 t.3 ∙ h.2)) ∙ solved_fit k a.n a.m a.coefficients.now a.weights.now t.0)
 
-pub write_weights-requires : goal.write_weights-requires
-write_weights-requires g c =
+pub returns-clause-result : goal.returns-clause-result
+returns-clause-result g c =
     let a = c.args in
-    let f = fits a.n a.m (length a.coefficients.now) (length a.weights.now) c.if-not-sizes_fit.ensures in
-    let l : c.in-Ok.k * a.n ≤ a.n * a.n = mul-le-mul_right a.n c.in-Ok.ensures.0 in
-    record { room = omega (arith, f.room); full = omega (arith, all_balances a.n f.few) }
+    let k = g.T.Number.kind in
+    let t = c.in_ok-table.ensures.fits in
+    let f = c.in_ok-filed.filed in
+    let h = c.in_ok-filed.ensures in
+    let w = subst (λ z. AsWritten k z f) t.1 h.1 in
+    let fit = fits a.n a.m _ _ t.0 in
+    let l = all_balances f.found a.n (omega (arith, h.0, t.1)) fit.few in
+    answered_rows k a.n f.found f.weights a.weights.now c.write_front.new.weights (omega (arith, l.1)) w c.write_front.ensures
+    ∙ ap (answered k a.weights.now) (sym (same_table k t.1 t.2 t.3 ∙ h.2 ∙ ap (λ z. Ok (rows_of f.found z (map k.counts f.weights))) t.1))
+    ∙ solved_fit k a.n a.m a.coefficients.now a.weights.now t.0
 
-pub returns-in-Ok : goal.returns-in-Ok
-returns-in-Ok g c =
-    let v = g.T.Number in
+pub returns-clause-exact : goal.returns-clause-exact
+returns-clause-exact g c =
     let a = c.args in
-    let f = fits a.n a.m (length a.coefficients.now) (length a.weights.now) c.if-not-sizes_fit.ensures in
-    let l : c.in-Ok.k * a.n ≤ a.n * a.n = mul-le-mul_right a.n c.in-Ok.ensures.0 in
-    let e = answered_rows v.kind v.value a.n c.in-Ok.k c.eliminate.new.balances a.weights.now c.write_weights.new.weights (omega (arith, all_balances a.n f.few)) c.write_weights.ensures
-    ∙ ap (answered v.kind a.weights.now) (sym c.in-Ok.ensures.1)
-    ∙ solved_fit v.kind a.n a.m a.coefficients.now a.weights.now c.if-not-sizes_fit.ensures in
-    record { result = e; exact = exact g.met.T.Number.lawful a.n a.m a.coefficients.now a.weights.now _ _ e }
-
-pub returns-in-Err : goal.returns-in-Err
-returns-in-Err g c =
-    let v = g.T.Number in
-    let a = c.args in
-    record {
-      result = ap (answered v.kind a.weights.now) (sym c.in-Err.ensures) ∙ solved_fit v.kind a.n a.m a.coefficients.now a.weights.now c.if-not-sizes_fit.ensures;
-      exact = tt;
-    }
+    exact g.met.T.Number.lawful a.n a.m a.coefficients.now a.weights.now _ _ (returns-clause-result g c)

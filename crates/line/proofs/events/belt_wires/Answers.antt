@@ -1,32 +1,36 @@
-use Rattle.std.proofs.Common.{length, sym, ap, ◌∙◌, arith, length-set}
+use Rattle.std.proofs.Common.{◌≡◌, ◌<◌, ◌+◌, length, take, sym, ap, ◌∙◌, arith, length-set, rules}
+use Rattle.std.specs.List.{filter_map}
+use borrow.Author.Tests.{tests}
+use Rattle.std.proofs.lemmas.List.{length_push}
+use Rattle.std.proofs.lemmas.Iterator.{YieldsList-from_slice}
+use Rattle.std.proofs.lemmas.Iterator.Consumers.{YieldsList-from_filter_map, YieldsList-at}
 use Rattle.line.specs.Parts.{offer_and_take}
-use Rattle.line.proofs.Collecting.{place_left, collected_one, collected_none, all_collected, all_counted, told_belts, length_belts}
+use Rattle.line.proofs.Collecting.{collected_one, numbered_turn, numbered_end, told_belts, length_belts}
 use Rattle.line.proofs.events.belt_wires.Goals as goal
-use Rattle.line.proofs.events.belt_wires.Goals.{in-Some, in_default}
 
-pub bounds-belts-n : goal.bounds-belts-n
-bounds-belts-n c =
-    let ns = c.args.nodes.now in
-    let l = c.loop-node in
-    omega (arith, place_left offer_and_take ns l.node-index l.belts l.n l.invariant.1 (omega arith) _ (sym c.in-Some.ensures), ap length (told_belts ns), length_belts ns, c.requires.belts)
+turn : (c : goal.After-pair-1) → (c.in-Some.b ≡ length c.loop-b.yielded) × (length c.loop-b.yielded < length (filter_map offer_and_take c.args.nodes.now))
+turn c =
+    let l = c.loop-b in
+    numbered_turn c.into_iter-b-iterator.result l.b-iterator l.yielded l.yielded_by (filter_map offer_and_take c.args.nodes.now)
+    (YieldsList-at {t = c.filter_map-pairs.result} (cc) (YieldsList-from_filter_map _ offer_and_take (YieldsList-from_slice c.args.nodes.now (cc)) c.filter_map-pairs.ensures.closure (λ x r q k. search (rules, tests))))
+    (cc) c.next.result c.next.new.self c.in-Some.b c.in-Some.pair c.in-Some.is c.next.ensures.steps
 
-pub loop-node-preserved : goal.loop-node-preserved
-loop-node-preserved c =
+pub loop-b-preserved : goal.loop-b-preserved
+loop-b-preserved c =
+    let l = c.loop-b in
+    let t = turn c in
     let ns = c.args.nodes.now in
-    let l = c.loop-node in
-    elim c.match-offer_and_take.branch [
-      | in-Some w ↦
-          let e = sym w.in-Some.ensures in
-          let lt = place_left offer_and_take ns l.node-index l.belts l.n l.invariant.1 (omega arith) _ e in
-          rw (w.belts-is, w.n-is) (length-set l.belts l.n _ ∙ l.invariant.0, collected_one offer_and_take ns l.node-index l.belts l.n l.invariant.1 (omega arith) _ e (omega (arith, lt, ap length (told_belts ns), length_belts ns, c.requires.belts)))
-      | in_default w ↦ rw (w.belts-is, w.n-is) (l.invariant.0, collected_none offer_and_take ns l.node-index l.belts l.n l.invariant.1 (omega arith) (sym w.in_default.ensures))
-    ]
+    let within : c.in-Some.b < 32 = omega (arith, t.0, t.1, ap length (told_belts ns), length_belts ns, c.requires.belts) in (
+      length-set l.belts _ _ ∙ l.invariant.0,
+      collected_one l.belts l.yielded _ _ t.0 (omega (arith, t.0, within, l.invariant.0)) l.invariant.1,
+      ap (λ k. k + 1) t.0 ∙ sym (length_push l.yielded _),
+    )
 
-pub returns : goal.returns
-returns c =
+pub returns-clause-wires : goal.returns-clause-wires
+returns-clause-wires c =
     let ns = c.args.nodes.now in
-    let l = c.loop-node in
-    record {
-      wires = all_collected offer_and_take ns l.node-index l.belts l.n l.invariant.1 (omega arith) ∙ told_belts ns;
-      count = all_counted offer_and_take ns l.node-index l.belts l.n l.invariant.1 (omega arith) ∙ ap length (told_belts ns) ∙ length_belts ns;
-    }
+    let l = c.loop-b in
+    let e = numbered_end c.into_iter-b-iterator.result l.b-iterator l.yielded l.yielded_by (filter_map offer_and_take ns)
+    (YieldsList-at {t = c.filter_map-pairs.result} (cc) (YieldsList-from_filter_map _ offer_and_take (YieldsList-from_slice ns (cc)) c.filter_map-pairs.ensures.closure (λ x r q k. search (rules, tests))))
+    (cc) c.next.result c.next.new.self c.in-None.is c.next.ensures.steps in
+    ap (λ n. take n l.belts) l.invariant.2 ∙ l.invariant.1 ∙ e.0 ∙ told_belts ns

@@ -1,12 +1,10 @@
-use Rattle.std.proofs.Common.{◌≡◌, ℕ, ◌*◌, Bool, false, ◌&&◌, ◌++◌, get_or, take, drop, is_some, ap, ◌∙◌, arith}
+use Rattle.std.proofs.Common.{◌≡◌, ℕ, Bool, false, ◌&&◌, get_or, take, is_some, ap, ◌∙◌, arith}
 use native.Mathlib.Nat.{sub-zero}
 use Rattle.belts.specs.Belts.{roomy, head_of}
 use Rattle.banks.specs.Banks.{numbered}
 use Rattle.sheet.specs.Wires.{bit, enters, leaves}
 use Rattle.sheet.proofs.Counting.{byte_le}
-use Rattle.line.specs.Lines.{event_bytes, how_many}
-use Rattle.line.specs.Parts.{belt_count}
-use Rattle.line.proofs.Bytes.{bytes_on, many_on, same_pair}
+use Rattle.line.proofs.Bytes.{bytes_on, many_on}
 use Rattle.line.proofs.events.report.Goals as goal
 
 pub loop-b-preserved : goal.loop-b-preserved
@@ -21,7 +19,7 @@ loop-b-preserved g c =
     let events : c.belt_events-enters.result ≡ (enter b, leave b) =
     c.belt_events-enters.ensures
     ∙ ap (λ q. ((get_or ws q.0 false && roomy (numbered bank b)), (get_or ws q.1 false && is_some (head_of (numbered bank b)))))
-    (c.pair_at.ensures ∙ ap (λ ps. get_or ps b (0, 0)) (ap (λ k. take k told.0) (sub-zero told.1) ∙ c.belt_wires-n.ensures.wires)) in
+    (ap (λ ps. get_or ps b (0, 0)) (ap (λ k. take k told.0) (sub-zero told.1) ∙ c.belt_wires-n.ensures.wires)) in
     let in' = ap (λ q. bit q.0) events in
     let out = ap (λ q. bit q.1) events in
     let inv = c.loop-b.invariant in (
@@ -31,17 +29,3 @@ loop-b-preserved g c =
       omega (arith, inv.3, c.from-entered.ensures, byte_le c.belt_events-enters.result.0),
       omega (arith, inv.4, c.from-left.ensures, byte_le c.belt_events-enters.result.1),
     )
-
-pub returns : goal.returns
-returns g c =
-    let bank = g.B.Bank.belts c.args.bank.now in
-    let ns = c.args.nodes.now in
-    let ws = c.args.wires.now in
-    let enter : ℕ → Bool = enters ns ws (λ c. roomy (numbered bank c)) in
-    let leave : ℕ → Bool = leaves ns ws (λ c. is_some (head_of (numbered bank c))) in
-    let n : c.loop-b.b ≡ belt_count ns = omega (arith, c.belt_wires-n.ensures.count) in
-    let inv = c.loop-b.invariant in
-    record {
-      bytes = inv.0 ∙ ap (λ k. event_bytes enter leave k ++ drop (2 * k) c.args.events.now) n;
-      pair = same_pair (inv.1 ∙ ap (how_many enter) n) (inv.2 ∙ ap (how_many leave) n);
-    }

@@ -1,34 +1,40 @@
-use Rattle.std.proofs.Common.{take, sym, ap, ◌∙◌, arith, length-set}
+use Rattle.std.proofs.Common.{◌≡◌, ◌<◌, length, take, sym, ap, ◌∙◌, arith, length-set, rules}
+use Rattle.std.specs.List.{filter_map}
+use borrow.Author.Tests.{tests}
+use Rattle.std.proofs.lemmas.Iterator.{YieldsList-from_slice}
+use Rattle.std.proofs.lemmas.Iterator.Consumers.{YieldsList-from_filter_map, YieldsList-at}
 use Rattle.line.specs.Moving.{next_of}
-use Rattle.line.proofs.Collecting.{place_left, collected_one, collected_none, all_collected, all_counted, told_flops, length_flops}
+use Rattle.line.proofs.Collecting.{collected_one, numbered_turn, numbered_end, told_flops, length_flops}
 use Rattle.line.proofs.Rules.{flops_free}
 use Rattle.line.proofs.moves.next_flops.Goals as goal
-use Rattle.line.proofs.moves.next_flops.Goals.{in-Some, in_default}
+
+turn : (c : goal.In-Some) → (c.in-Some.k ≡ length c.loop-k.yielded) × (length c.loop-k.yielded < length (filter_map (next_of c.args.wires.now) c.args.nodes.now))
+turn c =
+    let l = c.loop-k in
+    let f = next_of c.args.wires.now in
+    numbered_turn c.into_iter-k-iterator.result l.k-iterator l.yielded l.yielded_by (filter_map f c.args.nodes.now)
+    (YieldsList-at {t = c.filter_map-values.result} (cc) (YieldsList-from_filter_map _ f (YieldsList-from_slice c.args.nodes.now (cc)) c.filter_map-values.ensures.closure (λ x r q k. search (rules, tests))))
+    (cc) c.next.result c.next.new.self c.in-Some.k c.in-Some.value c.in-Some.is c.next.ensures.steps
 
 pub bounds-flops-k : goal.bounds-flops-k
 bounds-flops-k c =
     let ns = c.args.nodes.now in
-    let ws = c.args.wires.now in
-    let l = c.loop-node in
-    omega (arith, place_left (next_of ws) ns l.node-index l.flops l.k l.invariant.1 (omega arith) _ (sym c.in-Some.ensures), length_flops ws ns, flops_free ns, c.requires.free)
+    let t = turn c in
+    omega (arith, t.0, t.1, length_flops c.args.wires.now ns, flops_free ns, c.requires.free)
 
-pub loop-node-preserved : goal.loop-node-preserved
-loop-node-preserved c =
-    let ns = c.args.nodes.now in
-    let ws = c.args.wires.now in
-    let l = c.loop-node in
-    elim c.match-next_value.branch [
-      | in-Some w ↦
-          let e = sym w.in-Some.ensures in
-          let lt = place_left (next_of ws) ns l.node-index l.flops l.k l.invariant.1 (omega arith) _ e in
-          rw (w.flops-is, w.k-is) (length-set l.flops l.k _ ∙ l.invariant.0, collected_one (next_of ws) ns l.node-index l.flops l.k l.invariant.1 (omega arith) _ e (omega (arith, lt, length_flops ws ns, flops_free ns, c.requires.free)))
-      | in_default w ↦ rw (w.flops-is, w.k-is) (l.invariant.0, collected_none (next_of ws) ns l.node-index l.flops l.k l.invariant.1 (omega arith) (sym w.in_default.ensures))
-    ]
+pub loop-k-preserved : goal.loop-k-preserved
+loop-k-preserved c =
+    let l = c.loop-k in
+    let t = turn c in
+    let within : c.in-Some.k < 128 = bounds-flops-k c in
+    (length-set l.flops _ _ ∙ l.invariant.0, collected_one l.flops l.yielded _ _ t.0 (omega (arith, t.0, within, l.invariant.0)) l.invariant.1)
 
 pub returns : goal.returns
 returns c =
     let ns = c.args.nodes.now in
     let ws = c.args.wires.now in
-    let l = c.loop-node in
-    ap (λ k. take k l.flops) (sym (all_counted (next_of ws) ns l.node-index l.flops l.k l.invariant.1 (omega arith) ∙ length_flops ws ns))
-    ∙ all_collected (next_of ws) ns l.node-index l.flops l.k l.invariant.1 (omega arith) ∙ told_flops ws ns
+    let l = c.loop-k in
+    let e = numbered_end c.into_iter-k-iterator.result l.k-iterator l.yielded l.yielded_by (filter_map (next_of ws) ns)
+    (YieldsList-at {t = c.filter_map-values.result} (cc) (YieldsList-from_filter_map _ (next_of ws) (YieldsList-from_slice ns (cc)) c.filter_map-values.ensures.closure (λ x r q k. search (rules, tests))))
+    (cc) c.next.result c.next.new.self c.in-None.is c.next.ensures.steps in
+    ap (λ n. take n l.flops) (sym (e.1 ∙ length_flops ws ns)) ∙ l.invariant.1 ∙ e.0 ∙ told_flops ws ns

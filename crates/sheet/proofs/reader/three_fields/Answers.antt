@@ -8,4 +8,4 @@ returns-in-Some-split_once-2 c =
     let y = ap length c.in-Some-split_once.ensures.parted in
     let z = ap length c.in-Some-split_once-2.ensures.parted in
     let w = some_fields 32 [] c.in-Some-split_once-2._more.now in
-    (c.wrong_values-in-Some-split_once-2.ensures, λ e. omega arith)
+    (c.at-in-Some-split_once-2.ensures, λ e. omega arith)

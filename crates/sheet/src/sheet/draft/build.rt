@@ -7,9 +7,7 @@ ghost use Rattle.sheet.specs.declared.fault.Refusal.TheVariants.{UnfitBelt};
 
 use crate::fault::{Fault, Refusal};
 use crate::node::{Node, Source};
-use crate::rules::{
-    bit_of, check_names, is_belt, is_free, item_of, order_fits, parts_fit, room_of, sizes_fit,
-};
+use crate::rules::{Lines, order_fits, sizes_fit};
 use crate::sheet::Sheet;
 use crate::sheet::draft::Draft;
 use crate::sheet::tally::Tally;
@@ -23,9 +21,7 @@ impl Draft {
             len: 0,
             belts: 0,
             free: 0,
-            rooms: Tally::new(),
-            items: Tally::new(),
-            bits: Tally::new(),
+            parts: Tally::new(),
         }
     }
 
@@ -41,27 +37,19 @@ impl Draft {
         ensures { MatchResult result (λ _. admitted (so_far self.old) node ≡ Ok (so_far self.new)) (λ e. admitted (so_far self.old) node ≡ Err e) }
     {
         let at = self.len;
-        let belts = self.belts + usize::from(is_belt(node));
-        let free = self.free + usize::from(is_free(node));
+        let belts = self.belts + usize::from(node.is_belt());
+        let free = self.free + usize::from(node.is_free());
         if !sizes_fit(at + 1, belts, free) {
-            return Err(Fault {
-                refusal: Refusal::TooMany,
-                place: at as u16,
-            });
+            return Err(Refusal::TooMany.at(at as u16));
         }
-        if !order_fits(&self.nodes[0..at], node) {
-            return Err(Fault {
-                refusal: Refusal::GateOutOfOrder,
-                place: at as u16,
-            });
+        if !order_fits(&self.nodes[..at], node) {
+            return Err(Refusal::GateOutOfOrder.at(at as u16));
         }
         self.nodes[at] = node;
         self.len = at + 1;
         self.belts = belts;
         self.free = free;
-        self.rooms.add(room_of(node));
-        self.items.add(item_of(node));
-        self.bits.add(bit_of(node));
+        self.parts.add(node);
         Ok(())
     }
 
@@ -70,13 +58,10 @@ impl Draft {
         ensures { MatchResult result (λ _. unfit (so_far self.now) ≡ None) (λ e. (p : ℕ) × (unfit (so_far self.now) ≡ Some p) × (e ≡ fault UnfitBelt p)) }
     {
         let mut belt: usize = 0;
-        for (i, node) in self.nodes[0..self.len].iter().enumerate() {
-            if is_belt(*node) {
-                if !parts_fit(self.rooms.of(belt), self.items.of(belt), self.bits.of(belt)) {
-                    return Err(Fault {
-                        refusal: Refusal::UnfitBelt,
-                        place: i as u16,
-                    });
+        for (i, node) in self.nodes[..self.len].iter().enumerate() {
+            if node.is_belt() {
+                if !self.parts.of(belt).fit() {
+                    return Err(Refusal::UnfitBelt.at(i as u16));
                 }
                 belt += 1;
             }
@@ -100,7 +85,11 @@ impl Draft {
     pub(crate) fn finish(&self) -> Result<Sheet, Fault>
         ensures { MatchResult result (λ s. checked (so_far self.now) ≡ Ok (nodes_in s)) (λ e. checked (so_far self.now) ≡ Err e) }
     {
-        check_names(&self.nodes[0..self.len], self.belts)?;
+        let lines = Lines {
+            nodes: &self.nodes[..self.len],
+            belts: self.belts,
+        };
+        lines.check_names()?;
         self.check_belts()?;
         Ok(self.sheet())
     }

@@ -1,5 +1,5 @@
 use Rattle.std.proofs.Common.{◌+◌, not, List, length, set, replicate, pos, negsuc, sym, ap, subst, arith}
-use Rattle.std.proofs.lemmas.List.{length-set, drop-set-lt}
+use Rattle.std.proofs.lemmas.List.{drop-set-lt}
 use Rattle.terms.specs.declared.term.Term.{Term}
 use Rattle.terms.specs.Forms.{norm, add_all, scaled, not_form}
 use Rattle.terms.specs.Records.{form_in, Held, Gated}
@@ -11,14 +11,11 @@ use Rattle.terms.proofs.gates.negation.Goals as goal
 abbrev one : Term
 one = record { set = replicate 16 0; coefficient = pos 1 }
 
-pub put_scaled-requires : goal.put_scaled-requires
-put_scaled-requires c =
+pub put_into-requires-clause-fits : goal.put_into-requires-clause-fits
+put_into-requires-clause-fits c =
     let W = c.args.work.now in
     let h = gate_parts (length c.args.form.now + 1) W c.args.form.now c.args.form.now c.requires in
-    record {
-      room = simp length-set (omega arith);
-      fits = omega (arith, ap (λ (ts : List Term). norm (form_in ts)) (first_put W one (omega arith)));
-    }
+    omega (arith, ap (λ (ts : List Term). norm (form_in ts)) (first_put W one (omega arith)))
 
 pub returns : goal.returns
 returns c =
@@ -27,7 +24,7 @@ returns c =
     let n = length c.args.form.now in
     let h = gate_parts (length c.args.form.now + 1) W c.args.form.now c.args.form.now c.requires in
     let e = ap (λ (ts : List Term). add_all (form_in ts) (scaled 0 (negsuc 0) F)) (first_put W one (omega arith)) in
-    let held : Held (n + 1) (not_form F) W c.put_scaled.new.work c.put_scaled.result
-    = onward (1 + n) (n + 1) c.put_scaled.result _ (not_form F) (set W 0 one) c.put_scaled.new.work W c.put_scaled.ensures e (omega arith)
+    let held : Held (n + 1) (not_form F) W c.put_into.new.work c.put_into.result
+    = onward (1 + n) (n + 1) c.put_into.result _ (not_form F) (set W 0 one) c.put_into.new.work W c.put_into.ensures e (omega arith)
     (drop-set-lt (n + 1) W 0 one (omega arith)) in
     (held, subst (Gated (λ a b. not a) F F) (sym held.form) (not_gated F))

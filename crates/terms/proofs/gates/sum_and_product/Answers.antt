@@ -1,6 +1,7 @@
 use Rattle.std.proofs.Common.{◌≡◌, ℕ, ◌+◌, ◌*◌, ◌^◌, List, ◌++◌, length, take, drop, ℤ, pos, nat_abs, sym, refl, ap, ◌∙◌, ap₂, arith, w64}
 use Rattle.std.proofs.lemmas.Nat.{mul-le}
-use Rattle.std.proofs.lemmas.List.{take_at, drop_at}
+use Rattle.std.proofs.lemmas.List.{take_at}
+use Rattle.std.proofs.lemmas.Slice.{drop-append-drop}
 use Rattle.std.proofs.lemmas.Int.{to_z-of_z}
 use Rattle.terms.specs.declared.term.Term.{Term}
 use Rattle.terms.specs.Forms.{Form, norm, add_all, scaled, add_product}
@@ -14,44 +15,22 @@ use Rattle.terms.proofs.gates.sum_and_product.Goals as goal
 front : (W W' ts : List Term) (n : ℕ) → n ≡ length ts → W' ≡ ts ++ drop (length ts) W → form_in (take n W') ≡ form_in ts
 front W W' ts n e f = ap form_in (ap (take n) f ∙ take_at ts (drop (length ts) W) n (sym e))
 
-behind : (W W' ts : List Term) → W' ≡ ts ++ drop (length ts) W → drop (length ts) W' ≡ drop (length ts) W
-behind W W' ts f = ap (drop (length ts)) f ∙ drop_at ts (drop (length ts) W) (length ts) refl
-
 -- the sum, from the form of one and once the other
 summed : (F p q : Form) → F ≡ p → add_all F (scaled 0 (pos 1) q) ≡ add_all p q
 summed F p q e = ap₂ (λ (x y : Form). add_all x y) e (scaled_one q)
 
-pub put_form-copied-requires : goal.put_form-copied-requires
-put_form-copied-requires c =
-    let A = c.args.one.now in
-    let B = c.args.other.now in
-    let h = gate_parts (length A + length B + length A * length B) c.args.work.now A B c.requires.fits in
-    omega arith
-
-pub put_scaled-used-requires : goal.put_scaled-used-requires
-put_scaled-used-requires c =
-    let A = c.args.one.now in
-    let B = c.args.other.now in
-    let h = gate_parts (length A + length B + length A * length B) c.args.work.now A B c.requires.fits in
-    let e = front c.args.work.now c.put_form-copied.new.work A c.put_form-copied.result c.put_form-copied.ensures.size c.put_form-copied.ensures.whole in
-    record { room = omega arith; fits = omega (arith, ap norm e) }
-
-pub put_product-requires : goal.put_product-requires
-put_product-requires c =
+pub put_into-requires-clause-fits : goal.put_into-requires-clause-fits
+put_into-requires-clause-fits c =
     let A = c.args.one.now in
     let B = c.args.other.now in
     let k = c.args.factor in
     let h = gate_parts (length A + length B + length A * length B) c.args.work.now A B c.requires.fits in
     let e = front c.args.work.now c.put_form-copied.new.work A c.put_form-copied.result c.put_form-copied.ensures.size c.put_form-copied.ensures.whole in
-    let f = c.put_scaled-used.ensures.form ∙ summed _ (form_in A) (form_in B) e in
+    let f = c.put_into-used.ensures.form ∙ summed _ (form_in A) (form_in B) e in
     let m = mul-le (nat_abs k) (norm (form_in A)) 2 (2 ^ 30) c.requires.few (omega arith) in
     let n = twice_light (nat_abs k) (norm (form_in A)) (norm (form_in B)) c.requires.few h.1 h.2 in
     let z = to_z-of_z w64 k c.ranges.factor in
-    record {
-      room = omega (arith, c.put_scaled-used.ensures.bound);
-      fits = rw z (omega (arith, ap norm f, add_all_norm (form_in A) (form_in B)));
-      small = rw z (omega arith);
-    }
+    rw z (omega (arith, ap norm f, add_all_norm (form_in A) (form_in B)))
 
 pub returns : goal.returns
 returns c =
@@ -59,12 +38,12 @@ returns c =
     let B = c.args.other.now in
     let W = c.args.work.now in
     let W₁ = c.put_form-copied.new.work in
-    let W₂ = c.put_scaled-used.new.work in
+    let W₂ = c.put_into-used.new.work in
     let N = length A + length B + length A * length B in
     let e = front W W₁ A c.put_form-copied.result c.put_form-copied.ensures.size c.put_form-copied.ensures.whole in
-    let f = c.put_scaled-used.ensures.form ∙ summed _ (form_in A) (form_in B) e in
-    onward (c.put_scaled-used.result + length A * length B) N c.put_product.result _ _ W₂ c.put_product.new.work W c.put_product.ensures
+    let f = c.put_into-used.ensures.form ∙ summed _ (form_in A) (form_in B) e in
+    onward (c.put_into-used.result + length A * length B) N c.put_into.result _ _ W₂ c.put_into.new.work W c.put_into.ensures
     (ap₂ (λ (k : ℤ) (x : Form). add_product k x (form_in A) (form_in B)) (to_z-of_z w64 c.args.factor c.ranges.factor) f)
-    (omega (arith, c.put_scaled-used.ensures.bound))
-    (drop_later (c.put_form-copied.result + length B) N W₂ W₁ (omega arith) c.put_scaled-used.ensures.rest
-    ∙ drop_later (length A) N W₁ W (omega arith) (behind W W₁ A c.put_form-copied.ensures.whole))
+    (omega (arith, c.put_into-used.ensures.bound))
+    (drop_later (c.put_form-copied.result + length B) N W₂ W₁ (omega arith) c.put_into-used.ensures.rest
+    ∙ ap (drop N) c.put_form-copied.ensures.whole ∙ drop-append-drop (length A) W A N (omega arith) refl)

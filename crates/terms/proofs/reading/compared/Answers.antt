@@ -11,8 +11,8 @@ equal r p q e = ((λ f. (same_means p q).0 (sym e ∙ f)), (λ f. e ∙ (same_me
 alike : (r : Bool) (p q : Form) → r ≡ same p q → Rising 0 p → Rising 0 q → Decides r (Alike p q)
 alike r p q e v w = ((λ f. (canonical p q v w).0 ((equal r p q e).0 f)), (λ h. (equal r p q e).1 ((canonical p q v w).1 h)))
 
-pub returns : goal.returns
-returns c =
-    let p = form_in c.args.one.now in
-    let q = form_in c.args.other.now in
-    record { exact = c.matching.ensures; equal = equal c.matching.result p q c.matching.ensures; alike = alike c.matching.result p q c.matching.ensures }
+pub returns-clause-equal : goal.returns-clause-equal
+returns-clause-equal c = equal c.matching.result (form_in c.args.one.now) (form_in c.args.other.now) c.matching.ensures
+
+pub returns-clause-alike : goal.returns-clause-alike
+returns-clause-alike c = alike c.matching.result (form_in c.args.one.now) (form_in c.args.other.now) c.matching.ensures

@@ -19,8 +19,8 @@ placed w =
     whole : w % 8 + 8 * (w / 8) ≡ w
     whole = omega arith
 
-pub returns : goal.returns
-returns c =
+pub returns-clause-number : goal.returns-clause-number
+returns-clause-number c =
     let w = c.args.wire in
     let e = ap (set (replicate 16 0) (w / 8)) (one_shl (w % 8) 8 (omega arith)) in
-    record { bytes = e; number = ap number_of e ∙ number_marked 16 (w / 8) (2 ^ (w % 8)) (omega arith) ∙ placed w }
+    ap number_of e ∙ number_marked 16 (w / 8) (2 ^ (w % 8)) (omega arith) ∙ placed w

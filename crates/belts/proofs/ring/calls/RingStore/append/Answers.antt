@@ -7,4 +7,4 @@ use Rattle.belts.proofs.ring.calls.RingStore.append.Goals as goal
 pub returns : goal.returns
 returns c =
     let r = c.args.self.now in
-    simp c.after_place-self.ensures (ap (holding (ring_of r)) (ring_append r c.args.word c.requires.0))
+    simp (c.from.ensures, c.after_place-self.ensures) (ap (holding (ring_of r)) (ring_append r c.args.word c.requires.0))

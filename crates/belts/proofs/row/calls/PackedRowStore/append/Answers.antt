@@ -14,7 +14,7 @@ invariant_of-self c =
       few = omega arith;
       narrow = omega arith;
       held = omega arith;
-      clean = rw (joined_put r.count r.bits c.args.word (omega arith) r.clean c.requires.1) b;
+      clean = rw (c.from.ensures, joined_put r.count r.bits c.args.word (omega arith) r.clean c.requires.1) b;
     }
 
 pub returns : goal.returns
@@ -24,4 +24,4 @@ returns c =
     let j = joined_put r.count r.bits c.args.word (omega arith) r.clean c.requires.1 in
     let u = unpacked_put r.count r.bits c.args.word r.clean c.requires.1 in
     let e : r.count + 1 ≡ suc r.count = omega arith in
-    ap (holding (row_of r)) (rw (j, e, u))
+    ap (holding (row_of r)) (rw (c.from.ensures, j, e, u))

@@ -1,32 +1,7 @@
-use Rattle.std.proofs.Common.{sym, ap, ◌∙◌, arith, length-set}
-use Rattle.sheet.specs.Nodes.{is_room_of, is_item_of, is_bit_of, room_of, item_of, bit_of}
+use Rattle.std.proofs.Common.{sym, ap, ◌∙◌, length-set}
 use Rattle.sheet.specs.Wires.{bit}
-use Rattle.sheet.proofs.Drafting.{before, length_before, counts_few, too_many, out_of_order, fits, goes_in, belts_counted, free_counted, stays_ordered, stays_counted}
+use Rattle.sheet.proofs.Drafting.{fits, belts_counted, free_counted, stays_ordered, stays_tallied}
 use Rattle.sheet.proofs.sheet.draft.Draft.push.Goals as goal
-
-pub returns-then-not-sizes_fit : goal.returns-then-not-sizes_fit
-returns-then-not-sizes_fit c =
-    too_many c.args.self.now c.args.node _ _
-    (c.from.ensures ∙ ap bit c.is_belt.ensures)
-    (c.from-2.ensures ∙ ap bit c.is_free.ensures)
-    (sym c.if-not-sizes_fit.ensures)
-
-pub returns-then-not-order_fits : goal.returns-then-not-order_fits
-returns-then-not-order_fits c =
-    out_of_order c.args.self.now c.args.node _ _
-    (c.from.ensures ∙ ap bit c.is_belt.ensures)
-    (c.from-2.ensures ∙ ap bit c.is_free.ensures)
-    (sym c.if-not-sizes_fit.ensures)
-    (sym c.if-not-order_fits.ensures)
-
-pub add-requires : goal.add-requires
-add-requires c = let d = c.args.self.now in counts_few is_room_of (before d) _ (omega (arith, length_before d, d.few)) d.roomy
-
-pub add-requires-2 : goal.add-requires-2
-add-requires-2 c = let d = c.args.self.now in counts_few is_item_of (before d) _ (omega (arith, length_before d, d.few)) d.laden
-
-pub add-requires-3 : goal.add-requires-3
-add-requires-3 c = let d = c.args.self.now in counts_few is_bit_of (before d) _ (omega (arith, length_before d, d.few)) d.bitten
 
 pub invariant_of-self : goal.invariant_of-self
 invariant_of-self c =
@@ -45,15 +20,5 @@ invariant_of-self c =
       narrow = z.belts_fit;
       small = z.free_fit;
       ordered = stays_ordered d n _ _ eb ef s o;
-      roomy = stays_counted d n _ _ eb ef s o room_of _ _ _ c.room_of.ensures d.roomy c.add.ensures;
-      laden = stays_counted d n _ _ eb ef s o item_of _ _ _ c.item_of.ensures d.laden c.add-2.ensures;
-      bitten = stays_counted d n _ _ eb ef s o bit_of _ _ _ c.bit_of.ensures d.bitten c.add-3.ensures;
+      shared = stays_tallied d n _ _ eb ef s o _ _ d.shared c.add.ensures;
     }
-
-pub returns : goal.returns
-returns c =
-    goes_in c.args.self.now c.args.node _ _
-    (c.from.ensures ∙ ap bit c.is_belt.ensures)
-    (c.from-2.ensures ∙ ap bit c.is_free.ensures)
-    (sym c.if-not-sizes_fit.ensures)
-    (sym c.if-not-order_fits.ensures)

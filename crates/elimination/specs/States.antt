@@ -1,0 +1,14 @@
+-- What is filed so far, with the kept rows in memory. Assumes nothing.
+use Rattle.std.specs.Prelude.{◌≡◌, ℕ, ◌*◌, List, map, take}
+use Rattle.kinds.specs.Kinds.{Kind}
+use Rattle.kinds.specs.Elimination.{State}
+use Rattle.elimination.specs.Memory.{state_of}
+use Rattle.elimination.specs.declared.filed.Filed.{Filed}
+
+-- the rows that are kept, of `size` numbers each, and the balances, of n weights each
+abbrev pub state_in : (K : Kind) → (n size : ℕ) → Filed → List K.Num → State K.Num
+state_in K n size f rows = state_of n size f.used f.found f.leads rows (map K.counts f.weights)
+
+-- what stands in the memory of the balances is numbers as they are written
+abbrev pub AsWritten : (K : Kind) → ℕ → Filed → Type 0
+AsWritten K n f = map K.writes (map K.counts (take (f.found * n) f.weights)) ≡ take (f.found * n) f.weights
