@@ -1,17 +1,16 @@
 -- Worked examples, as one list with one statement over it: small forms; the board of three belts, from its text to what is
 -- printed of it, and its parity balance; and its first ticks.
-use Rattle.std.specs.Prelude.{◌≡◌, ℕ, List, [], ◌∷◌, ◌++◌, map, length, replicate, ℤ, pos, negsuc, Some, Ok, codes, count_by, Option, Result}
+use Rattle.std.specs.Prelude.{◌≡◌, ℕ, List, [], ◌∷◌, ◌++◌, map, length, replicate, ℤ, pos, negsuc, Some, Ok, codes, Option, Result}
 use Rattle.std.specs.List.{range_with_len, flat_map, AllByRecursion}
 use Rattle.sheet.specs.declared.fault.Fault.{Fault}
 use Rattle.sheet.specs.Loading.{loaded}
-use Rattle.sheet.specs.Nodes.{is_belt}
 use Rattle.sheet.specs.Refusals.{and_then}
 use Rattle.belts.specs.Belts.{Model, made}
 use Rattle.terms.specs.Forms.{Form, not_form, and_form, or_form, xor_form}
 use Rattle.terms.specs.Examples.{wire}
-use Rattle.kinds.specs.Kinds.{wholes, parities}
+use Rattle.kinds.specs.Kinds.{parities}
 use Rattle.flows.specs.Derivation.{derived}
-use Rattle.printing.specs.Printing.{list_text}
+use Rattle.listing.specs.Listing.{list_of}
 use Rattle.line.specs.Lines.{State, new_line, mount, tick, read}
 
 -- what a tick answers and writes
@@ -25,10 +24,6 @@ pub data Example : Type 0 where
   printed : List ℕ → List ℕ → Example
   parity : List ℕ → List (List ℤ) → Example
   ticked : List ℕ → List Model → List (List ℕ) → List Told → List (Option ℕ) → Example
-
--- the list of balances of a sheet, from its text to its printed bytes
-abbrev pub list_of : List ℕ → Result (List ℕ) Fault
-list_of text = and_then (loaded text) (λ ns. and_then (derived wholes ns) (λ bs. Ok (list_text (count_by is_belt ns) (length bs) (flat_map (λ w. w) bs))))
 
 -- what each of some ticks tells, with event memory of six bytes, and the line after them
 abbrev pub ticks : State → List (List ℕ) → List Told

@@ -1,0 +1,32 @@
+#![tactic(auto)]
+
+use listing::list_balances;
+use printing::print_refusal;
+use std::io::{Read, Write};
+use std::process::ExitCode;
+
+// One byte more than the longest sheet, so that a longer text is seen to be too long.
+const MOST_READ: u64 = 8193;
+
+// Enough for every list and for every refusal line.
+const MOST_WRITTEN: usize = 9504;
+
+fn run(rt: &HostRuntime) -> anyhow::Result<ExitCode> {
+    let mut text = Vec::new(rt.alloc());
+    rt.stdin().take(MOST_READ).read_to_end(&mut text)?;
+    let mut page = [0; MOST_WRITTEN];
+    let (status, written) = match list_balances(text.as_slice(), &mut page) {
+        Ok(n) => (ExitCode::SUCCESS, n),
+        Err(fault) => (
+            ExitCode::FAILURE,
+            print_refusal(fault, &mut page).unwrap_or(0),
+        ),
+    };
+    rt.stdout().write_all(&page[..written.min(MOST_WRITTEN)])?;
+    Ok(status)
+}
+
+// Reads a sheet from standard input and prints the list of its balances in whole numbers, or the refusal line (status 1).
+fn main(rt: HostRuntime) -> anyhow::Result<ExitCode> {
+    run(&rt)
+}

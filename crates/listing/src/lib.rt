@@ -1,0 +1,6 @@
+// The whole work on a text: from a sheet to the printed list of its balances.
+#![tactic(auto)]
+
+mod lists;
+
+pub use lists::list_balances;
