@@ -40,7 +40,7 @@ fn rings() -> Rings {
 }
 
 // The first tick, if any, in which a line over the bank and a plain model of the board differ, or a balance is off.
-fn first_slip<B: Bank + Drop>(
+fn first_difference<B: Bank + Drop>(
     heap: Global,
     bank: B,
     sheet: &Sheet,
@@ -65,8 +65,8 @@ fn first_slip<B: Bank + Drop>(
 }
 
 // Tells whether a line over a bank did what the plain model did.
-fn tell(rt: &HostRuntime, bank: &str, slip: Option<usize>) -> anyhow::Result<()> {
-    match slip {
+fn tell(rt: &HostRuntime, bank: &str, difference: Option<usize>) -> anyhow::Result<()> {
+    match difference {
         None => println!(rt; "{bank}: {TICKS} ticks as in the plain model")?,
         Some(tick) => println!(rt; "{bank}: another tick {tick} than in the plain model")?,
     }
@@ -79,7 +79,11 @@ fn main(rt: HostRuntime) -> anyhow::Result<()> {
     tell(
         &rt,
         "the six-lane bank",
-        first_slip(rt.alloc(), six_lanes(), &sheet)?,
+        first_difference(rt.alloc(), six_lanes(), &sheet)?,
     )?;
-    tell(&rt, "seven rings", first_slip(rt.alloc(), rings(), &sheet)?)
+    tell(
+        &rt,
+        "seven rings",
+        first_difference(rt.alloc(), rings(), &sheet)?,
+    )
 }
