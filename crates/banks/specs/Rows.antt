@@ -21,11 +21,11 @@ row_at k i d lt =
 pub row_set : (rows : List PackedRow) (n i : ℕ) (row : PackedRow) → i < n → map row_of (take n (slice_set rows i row)) ≡ slice_set (map row_of (take n rows)) i (row_of row)
 row_set rows n i row lt = ap (map row_of) (take-set-lt n rows i row lt) ∙ map-set row_of (take n rows) i row
 
--- what holds of an absent belt and of each row's, holds at each number
-pub row_each : (P : Model → Type 0) → P absent → ((r : PackedRow) → P (row_of r)) → (rows : List PackedRow) (i : ℕ) → P (numbered (map row_of rows) i)
-row_each P none each [] i = none
-row_each P none each (r ∷ rows) zero = each r
-row_each P none each (r ∷ rows) (suc i) = row_each P none each rows i
+-- of belts of any kind, by what each means: what holds of an absent belt and of each of them, holds at each number
+pub each_belt : {R : Type 0} (means : R → Model) (P : Model → Type 0) → P absent → ((r : R) → P (means r)) → (rs : List R) (i : ℕ) → P (numbered (map means rs) i)
+each_belt means P none each [] i = none
+each_belt means P none each (r ∷ rs) zero = each r
+each_belt means P none each (r ∷ rs) (suc i) = each_belt means P none each rs i
 
 map_replicate : (n : ℕ) (r : PackedRow) → map row_of (replicate n r) ≡ replicate n (row_of r)
 map_replicate zero r = refl

@@ -47,7 +47,7 @@ impl<B: Belt> Bank for Single<B> {
     }
 
     fn put(&mut self, i: usize, word: u8) -> bool {
-        if i == 0 { self.belt.put(word) } else { false }
+        i == 0 && self.belt.put(word)
     }
 
     fn take(&mut self, i: usize) -> Option<u8> {

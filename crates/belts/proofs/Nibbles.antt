@@ -50,9 +50,3 @@ module _ (r : PackedRow) where
 
   pub row_open : roomy (row_of r) ≡ true → r.count < r.places
   row_open room = let e = row_counted in grind (arith, nat_tests)
-
-pub row_first : (n b : ℕ) → 0 < n → unpacked n b ≡ bit_and b 15 ∷ unpacked (n - 1) (b / 16)
-row_first zero b some = elim some [ ]
-row_first (suc n) b some =
-    let e : suc n - 1 ≡ n = omega arith in
-    rw (e, and_mask b 4)

@@ -1,11 +1,12 @@
 -- What a put and a take do to a turned list. Assumes nothing.
-use Rattle.std.proofs.Common.{◌≡◌, ℕ, suc, ◌+◌, ◌-◌, ◌<◌, ◌≤◌, Bool, true, false, eqb, List, [], ◌∷◌, ◌++◌, length, get_or, take, drop, set, sym, refl, ap, ◌∙◌, ⊎_elim, arith}
+use Rattle.std.proofs.Common.{◌≡◌, ℕ, suc, ◌+◌, ◌-◌, ◌<◌, ◌≤◌, Bool, true, false, eqb, ltb, List, [], ◌∷◌, ◌++◌, length, get_or, take, drop, set, sym, refl, ap, ◌∙◌, ⊎_elim, arith}
 use lib.Seq.{take-set-lt}
-use Rattle.std.proofs.lemmas.List.{append-nil, append_assoc, length-take, length-drop, length-append, length-take-le, get_or-take, drop_more, take_more, take_more_set, take_all, drop_all, take-append-le, take-set-le, drop-set-lt, drop-set-add, set-append_left, set-append_right}
+use Rattle.std.proofs.lemmas.List.{nil_from_length, append-nil, append_assoc, length-take, length-drop, length-append, length-take-le, get_or-take, drop_more, take_more, take_more_set, take_all, drop_all, take-append-le, take-set-le, drop-set-lt, drop-set-add, set-append_left, set-append_right}
 use Rattle.std.proofs.lemmas.Bool.{cases_lt, cases_Bool, cases_eq}
 use Rattle.std.proofs.lemmas.Bool.Decides.{nat_tests}
+use Rattle.std.specs.Bool.{then_some}
 use Rattle.belts.specs.Layouts.{after, filled, turned, ring_words, ring_of}
-use Rattle.belts.specs.Belts.{counted, roomy}
+use Rattle.belts.specs.Belts.{counted, roomy, head_of, first}
 use Rattle.belts.specs.declared.ring.Ring.{Ring}
 
 pub length_turned : (l : ℕ) (xs : List ℕ) → l ≤ length xs → length (turned l xs) ≡ length xs
@@ -122,3 +123,12 @@ module _ (r : Ring) where
   ring_oldest some =
       let n = ring_counted in
       ring_take r.cells r.places r.enter r.leave (omega arith) r.enters r.leaves r.full r.meets (omega arith)
+
+  pub ring_head : then_some (ltb 0 (counted (ring_of r))) (get_or r.cells r.leave 0) ≡ head_of (ring_of r)
+  ring_head = ⊎_elim full none (cases_Bool (ltb 0 (counted (ring_of r))))
+    where
+      full : ltb 0 (counted (ring_of r)) ≡ true → then_some (ltb 0 (counted (ring_of r))) (get_or r.cells r.leave 0) ≡ head_of (ring_of r)
+      full e = let n : 0 < counted (ring_of r) = grind (arith, nat_tests) in rw e (sym (ap first (ring_oldest n)))
+
+      none : ltb 0 (counted (ring_of r)) ≡ false → then_some (ltb 0 (counted (ring_of r))) (get_or r.cells r.leave 0) ≡ head_of (ring_of r)
+      none e = let n : length (ring_of r).words ≡ 0 = grind (arith, nat_tests) in rw e (sym (ap first (nil_from_length (ring_of r).words n)))

@@ -18,32 +18,28 @@ impl<F: Belt, R: Belt> Series<F, R> {
     {
         Series { front, rear }
     }
-}
 
-// Moves words up from the rear while the front has room.
-fn move_up<F: Belt, R: Belt>(front: &mut F, rear: &mut R)
-    ensures same { in_series (F.model front.new) (R.model rear.new) ≡ in_series (F.model front.old) (R.model rear.old) }
-    ensures settled { roomy (F.model front.new) ≡ true → (R.model rear.new).words ≡ [] }
-{
-    while front.room() {
-        let Some(word) = rear.take() else {
-            return;
-        };
-        front.put(word);
+    // Moves words up from the rear while the front has room.
+    fn move_up(&mut self)
+        ensures same { in_series (F.model self.new.front) (R.model self.new.rear) ≡ in_series (F.model self.old.front) (R.model self.old.rear) }
+        ensures settled { roomy (F.model self.new.front) ≡ true → (R.model self.new.rear).words ≡ [] }
+    {
+        while self.front.room() {
+            let Some(word) = self.rear.take() else {
+                return;
+            };
+            self.front.put(word);
+        }
     }
-}
 
-// Puts a word behind all others: into the front where nothing stands in the rear, else into the rear.
-fn append<F: Belt, R: Belt>(front: &mut F, rear: &mut R, word: u8) -> bool
-    requires { roomy (in_series (F.model front.old) (R.model rear.old)) ≡ true }
-    ensures said { result ≡ true }
-    ensures joined { in_series (F.model front.new) (R.model rear.new) ≡ joining word (in_series (F.model front.old) (R.model rear.old)) }
-{
-    move_up(front, rear);
-    if front.room() {
-        front.put(word)
-    } else {
-        rear.put(word)
+    // Puts a word behind all others: into the front where nothing stands in the rear, else into the rear.
+    fn append(&mut self, word: u8) -> bool
+        requires { roomy (in_series (F.model self.old.front) (R.model self.old.rear)) ≡ true }
+        ensures said { result ≡ true }
+        ensures joined { in_series (F.model self.new.front) (R.model self.new.rear) ≡ joining word (in_series (F.model self.old.front) (R.model self.old.rear)) }
+    {
+        self.move_up();
+        self.front.put(word) || self.rear.put(word)
     }
 }
 
@@ -71,10 +67,7 @@ impl<F: Belt, R: Belt> Belt for Series<F, R> {
     }
 
     fn put(&mut self, word: u8) -> bool {
-        if !self.room() {
-            return false;
-        }
-        append(&mut self.front, &mut self.rear, word)
+        self.room() && self.append(word)
     }
 
     fn take(&mut self) -> Option<u8> {

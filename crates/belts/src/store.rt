@@ -1,4 +1,4 @@
-ghost use Rattle.std.specs.Prelude.{◌≡◌, ◌<◌, ◌≤◌, true, [], ◌∷◌, ◌++◌, Some};
+ghost use Rattle.std.specs.Prelude.{◌≡◌, ◌<◌, ◌≤◌, true, [], ◌∷◌, ◌++◌};
 ghost use Rattle.belts.specs.Belts.{Model, holding, counted, roomy, head_of, taking, clearing, nearer};
 
 use crate::belt::{Belt, cut_to};
@@ -20,9 +20,8 @@ pub(crate) trait Store {
         ensures { result ≡ counted (stored self.now) };
 
     // The word that leaves next.
-    fn oldest(&self) -> u8
-        requires { 0 < counted (stored self.now) }
-        ensures { Some result ≡ head_of (stored self.now) };
+    fn oldest(&self) -> Option<u8>
+        ensures { result ≡ head_of (stored self.now) };
 
     // Keeps a word behind all others.
     fn append(&mut self, word: u8)
@@ -66,14 +65,11 @@ impl<S: Store> Belt for S {
     }
 
     fn head(&self) -> Option<u8> {
-        if self.held() == 0 {
-            return None;
-        }
-        Some(self.oldest())
+        self.oldest()
     }
 
     fn put(&mut self, word: u8) -> bool {
-        if self.held() >= self.capacity() {
+        if !self.room() {
             return false;
         }
         let width = self.word_width();
@@ -82,10 +78,7 @@ impl<S: Store> Belt for S {
     }
 
     fn take(&mut self) -> Option<u8> {
-        if self.held() == 0 {
-            return None;
-        }
-        let word = self.oldest();
+        let word = self.oldest()?;
         self.advance();
         Some(word)
     }

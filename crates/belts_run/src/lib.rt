@@ -112,6 +112,15 @@ mod tests {
     }
 
     impl<B: Bank + Drop> Beheld<B> {
+        // A bank without words.
+        fn empty(heap: Global, bank: B, figures: Figures) -> Self {
+            Beheld {
+                bank,
+                list: Vec::new(heap),
+                figures,
+            }
+        }
+
         // How many places a belt of a number has.
         fn places(&self, i: usize) -> u16 {
             if i < usize::from(self.figures.belts) {
@@ -178,41 +187,30 @@ mod tests {
         }
     }
 
-    // The script on one belt that is empty at first.
-    fn run_belt<B: Belt + Drop>(
-        rt: &impl Abort,
-        heap: Global,
-        belt: B,
-        places: u16,
-        width: u8,
-    ) -> Result<(), Fail> {
-        let figures = Figures {
-            belts: 1,
-            places,
-            width,
-        };
-        let bank = Single::new(belt);
-        let list = Vec::new(heap);
-        Beheld {
-            bank,
-            list,
-            figures,
+    impl<B: Belt + Drop> Beheld<Single<B>> {
+        // One belt without words.
+        fn single(heap: Global, belt: B, places: u16, width: u8) -> Self {
+            let figures = Figures {
+                belts: 1,
+                places,
+                width,
+            };
+            Beheld::empty(heap, Single::new(belt), figures)
         }
-        .run(rt)
     }
 
     #[test]
     fn rings(rt: HostRuntime) -> Result<(), Fail> {
-        run_belt(&rt, rt.alloc(), Ring::new(16, 4), 16, 4)?;
-        run_belt(&rt, rt.alloc(), Ring::new(5, 3), 5, 3)?;
-        run_belt(&rt, rt.alloc(), Ring::new(0, 200), 1, 4)
+        Beheld::single(rt.alloc(), Ring::new(16, 4), 16, 4).run(&rt)?;
+        Beheld::single(rt.alloc(), Ring::new(5, 3), 5, 3).run(&rt)?;
+        Beheld::single(rt.alloc(), Ring::new(0, 200), 1, 4).run(&rt)
     }
 
     #[test]
     fn packed_rows(rt: HostRuntime) -> Result<(), Fail> {
-        run_belt(&rt, rt.alloc(), PackedRow::new(16, 4), 16, 4)?;
-        run_belt(&rt, rt.alloc(), PackedRow::new(7, 1), 7, 1)?;
-        run_belt(&rt, rt.alloc(), PackedRow::new(99, 0), 16, 0)
+        Beheld::single(rt.alloc(), PackedRow::new(16, 4), 16, 4).run(&rt)?;
+        Beheld::single(rt.alloc(), PackedRow::new(7, 1), 7, 1).run(&rt)?;
+        Beheld::single(rt.alloc(), PackedRow::new(99, 0), 16, 0).run(&rt)
     }
 
     // Rows with the same words, places and width are equal, and a copy goes its own way.
@@ -231,38 +229,20 @@ mod tests {
     #[test]
     fn series_closed_between(rt: HostRuntime) -> Result<(), Fail> {
         let front = Series::new(Ring::new(2, 2), Closed);
-        run_belt(
-            &rt,
-            rt.alloc(),
-            Series::new(front, PackedRow::new(2, 4)),
-            4,
-            2,
-        )
+        Beheld::single(rt.alloc(), Series::new(front, PackedRow::new(2, 4)), 4, 2).run(&rt)
     }
 
     // The front's words are wider than the rear's, and both hold some before they are joined.
     #[test]
     fn series_joined_late(rt: HostRuntime) -> Result<(), Fail> {
-        let heap = rt.alloc();
         let mut front = Ring::new(3, 4);
         let mut rear = PackedRow::new(4, 3);
         assert!(rt; front.put(15));
         assert!(rt; rear.put(6));
-        let mut list = Vec::new(heap);
-        list.push(Lying { belt: 0, word: 7 })?;
-        list.push(Lying { belt: 0, word: 6 })?;
-        let figures = Figures {
-            belts: 1,
-            places: 7,
-            width: 3,
-        };
-        let bank = Single::new(Series::new(front, rear));
-        Beheld {
-            bank,
-            list,
-            figures,
-        }
-        .run(&rt)
+        let mut beheld = Beheld::single(rt.alloc(), Series::new(front, rear), 7, 3);
+        beheld.list.push(Lying { belt: 0, word: 7 })?;
+        beheld.list.push(Lying { belt: 0, word: 6 })?;
+        beheld.run(&rt)
     }
 
     #[test]
@@ -272,14 +252,7 @@ mod tests {
             places: 16,
             width: 4,
         };
-        let bank = six_lanes();
-        let list = Vec::new(rt.alloc());
-        Beheld {
-            bank,
-            list,
-            figures,
-        }
-        .run(&rt)
+        Beheld::empty(rt.alloc(), six_lanes(), figures).run(&rt)
     }
 
     // Of twenty belts beside twenty, 32 are shown.
@@ -291,13 +264,31 @@ mod tests {
             places: 2,
             width: 3,
         };
-        let list = Vec::new(rt.alloc());
-        Beheld {
-            bank,
-            list,
-            figures,
-        }
-        .run(&rt)
+        Beheld::empty(rt.alloc(), bank, figures).run(&rt)
+    }
+
+    // A copy of a bank keeps its words, whatever becomes of the other.
+    #[test]
+    fn copied_bank(rt: HostRuntime) {
+        let mut bank = six_lanes();
+        assert!(rt; bank.put(6, 9));
+        let before = bank;
+        assert_eq!(rt; bank.take(6), Some(9));
+        assert!(rt; bank.put(2, 5));
+        assert_eq!(rt; before.head(6), Some(9));
+        assert_eq!(rt; before.count(2), 0);
+    }
+
+    // A bank tells what it holds.
+    #[test]
+    fn told_bank(rt: HostRuntime) -> Result<(), Fail> {
+        let mut bank = Single::new(PackedRow::new(2, 3));
+        assert!(rt; bank.put(0, 13));
+        assert_eq!(rt;
+            format!(in rt.alloc(); "{bank:?}")?.as_str(),
+            "Single { belt: PackedRow { bits: 5, count: 1, places: 2, width: 3 } }"
+        );
+        Ok(())
     }
 
     // Five answers for seven calls: the calls stop there, and the place after the fifth stays.

@@ -1,6 +1,10 @@
 -- The steps of the loops over one row.
-use Rattle.std.proofs.Common.{◌≡◌, ℕ, zero, suc, ◌+◌, ◌-◌, ◌<◌, Bool, true, false, cond, ◌||◌, List, [], ◌∷◌, ◌++◌, map, length, get_or, take, drop, set, replicate, sym, refl, ap, ◌∙◌, ap₂, true≢false, arith}
+use Rattle.std.proofs.Common.{◌≡◌, ℕ, zero, suc, ◌+◌, ◌<◌, Bool, true, false, cond, not, Option, Some, None, MatchOption, ◌||◌, List, [], ◌∷◌, ◌++◌, map, length, get_or, take, drop, set, replicate, sym, refl, ap, ◌∙◌, ap₂, arith}
 use Rattle.std.proofs.lemmas.List.{length-append, append_assoc, take_more_set, drop_more, drop-set-lt, drop-drop, map_push, map_more, map-set, length-map, length-take-le, set_at}
+use Rattle.std.proofs.lemmas.List.Folds.{list_any-append}
+use Rattle.std.proofs.Math.Seq.{take-set-lt}
+use Rattle.std.specs.List.{find}
+use Rattle.std.specs.Option.{option_map, option_map_or}
 use Rattle.kinds.specs.Kinds.{Kind}
 use Rattle.kinds.specs.Elimination.{less, any_past, leads_below, unit}
 
@@ -20,13 +24,20 @@ module _ (K : Kind) (a c : K.Num) where
       let f = less_push (map value (take i row)) (map value (take i other)) (value x) (value y) n in
       cc
 
-module _ (K : Kind) {W : Type 0} (wide : W → K.Num) where
-  pub below_more : (n : ℕ) (row : List W) (i : ℕ) (x : W) (b : Bool) → i < n → i < length row → x ≡ get_or row i x → K.is_zero (wide x) ≡ b → leads_below K (n - i) (map wide (drop i row)) ≡ cond b (leads_below K (n - (i + 1)) (map wide (drop (i + 1) row))) (K.below (wide x))
-  below_more n row i x b l lr ex eb =
-      let e : n - i ≡ suc (n - (i + 1)) = omega arith in
-      ap₂ (λ k zs. leads_below K k (map wide zs)) e (drop_more row i x lr)
-      ∙ ap (λ y. cond (K.is_zero (wide y)) (leads_below K (n - (i + 1)) (map wide (drop (i + 1) row))) (K.below (wide y))) (sym ex)
-      ∙ ap (λ v. cond v (leads_below K (n - (i + 1)) (map wide (drop (i + 1) row))) (K.below (wide x))) eb
+-- the first nonzero of the first numbers, as it is found
+pub leads_found : (K : Kind) {X : Type 0} (value : X → K.Num) (n : ℕ) (row : List X) → leads_below K n (map value row) ≡ option_map_or (λ x. K.below (value x)) (find (λ x. not (K.is_zero (value x))) (take n row)) false
+leads_found K value zero row = refl
+leads_found K value (suc n) [] = refl
+leads_found K {X} value (suc n) (x ∷ row) = go (K.is_zero (value x)) _ (leads_found K value n row)
+  where
+    go : (b : Bool) {rest : Bool} (found : Option X) → rest ≡ option_map_or (λ x. K.below (value x)) found false → cond b rest (K.below (value x)) ≡ option_map_or (λ x. K.below (value x)) (cond (not b) (Some x) found) false
+    go true found ih = ih
+    go false found ih = refl
+
+-- the test of the element that is found
+pub some_and : {A B : Type 0} (o : Option A) (r : Bool) (v : A → B) (f : B → Bool) (P : A → Type 0) → MatchOption o (r ≡ false) P → ((x : A) → P x → r ≡ f (v x)) → r ≡ option_map_or f (option_map v o) false
+some_and None r v f P m h = m
+some_and (Some x) r v f P m h = h x m
 
 -- a loop that writes over each element x one that means h of what x means
 module _ {W N : Type 0} (f : W → N) (h : N → N) where
@@ -44,31 +55,17 @@ module _ {W N : Type 0} (f : W → N) (h : N → N) where
       (cc, drop-set-lt (i + 1) row i w (omega arith) ∙ sym (drop-drop 1 i row) ∙ ap (drop 1) inv.1 ∙ drop-drop 1 i start)
 
 -- ---- the weights of a starting row
-take_set_in : {X : Type 0} (n : ℕ) (xs : List X) (i : ℕ) (x : X) → take n (set xs i x) ≡ set (take n xs) i x
-take_set_in zero xs i x = refl
-take_set_in (suc n) [] i x = refl
-take_set_in (suc n) (y ∷ xs) zero x = refl
-take_set_in (suc n) (y ∷ xs) (suc i) x = ap (λ zs. y ∷ zs) (take_set_in n xs i x)
-
-pub weights_set : (K : Kind) {T : Type 0} (value : T → K.Num) (row : List T) (n b : ℕ) (x : T) → value x ≡ K.one → map value (take n row) ≡ replicate n K.zero → map value (take n (set row b x)) ≡ unit K n b
-weights_set K value row n b x e inv =
-    ap (map value) (take_set_in n row b x) ∙ map-set value (take n row) b x ∙ ap₂ (λ zs y. set zs b y) inv e
-
-past_append : (K : Kind) (xs ys : List K.Num) → any_past K xs ≡ false → any_past K (xs ++ ys) ≡ any_past K ys
-past_append K [] ys e = refl
-past_append K (x ∷ xs) ys e = go (K.past x) e (past_append K xs ys)
-  where
-    go : (b : Bool) → (b || any_past K xs) ≡ false → (any_past K xs ≡ false → any_past K (xs ++ ys) ≡ any_past K ys) → (b || any_past K (xs ++ ys)) ≡ any_past K ys
-    go true e ih = absurd (true≢false e)
-    go false e ih = ih e
+pub weights_set : (K : Kind) {T : Type 0} (value : T → K.Num) (row : List T) (n b : ℕ) (x : T) → b < n → value x ≡ K.one → map value (take n row) ≡ replicate n K.zero → map value (take n (set row b x)) ≡ unit K n b
+weights_set K value row n b x lt e inv =
+    ap (map value) (take-set-lt n row b x lt) ∙ map-set value (take n row) b x ∙ ap₂ (λ zs y. set zs b y) inv e
 
 -- what stands in memory is within the limit
-pub past_none : (K : Kind) {T : Type 0} (value : T → K.Num) → ((x : T) → K.past (value x) ≡ false) → (xs : List T) → any_past K (map value xs) ≡ false
+past_none : (K : Kind) {T : Type 0} (value : T → K.Num) → ((x : T) → K.past (value x) ≡ false) → (xs : List T) → any_past K (map value xs) ≡ false
 past_none K value h [] = refl
 past_none K value h (x ∷ xs) = ap₂ (λ a b. a || b) (h x) (past_none K value h xs)
 
 pub past_behind : (K : Kind) {T : Type 0} (value : T → K.Num) → ((x : T) → K.past (value x) ≡ false) → (row : List T) (front ys : List K.Num) → map value row ≡ front → any_past K (front ++ ys) ≡ any_past K ys
-past_behind K value h row front ys e = past_append K front ys (ap (any_past K) (sym e) ∙ past_none K value h row)
+past_behind K value h row front ys e = list_any-append K.past front ys ∙ ap (λ b. b || any_past K ys) (ap (any_past K) (sym e) ∙ past_none K value h row)
 
 -- one more number is written
 pub written_more : {T N Z : Type 0} (h : N → Z) (f : T → N) (xs : List T) (old ws : List Z) (at i : ℕ) (x : T) (v : Z) → i < length xs → at + i < length old → x ≡ get_or xs i x → v ≡ h (f x) → ws ≡ take at old ++ (map h (map f (take i xs)) ++ drop (at + i) old)

@@ -1,8 +1,9 @@
 -- One row against kept rows: what a step leaves, and the loop over the columns.
 use Rattle.std.proofs.Common.{◌≡◌, ℕ, zero, suc, ◌+◌, ◌-◌, ◌*◌, ◌<◌, ◌≤◌, Bool, true, false, cond, eqb, List, [], ◌∷◌, map, length, get_or, take, drop, Some, None, sym, refl, ap, ◌∙◌, mul-le-mul_right, suc-mul, zero-mul, arith, eq-eqb, ne_eqb}
 use Rattle.std.proofs.lemmas.List.{drop-drop, get_or-map, take-map, drop-map}
+use Rattle.std.specs.Option.{option_map_or}
 use Rattle.kinds.specs.Kinds.{Kind}
-use Rattle.kinds.specs.Elimination.{kept_under, or_else, at, stepped, any_past, leads_below, negated_if, Handled, kept, balance, passes, handled}
+use Rattle.kinds.specs.Elimination.{kept_under, at, stepped, any_past, leads_below, negated_if, Handled, kept, balance, passes, handled}
 use Rattle.elimination.specs.Memory.{kept_of}
 
 pub at_read : (K : Kind) {T : Type 0} (value : T → K.Num) (xs : List T) (t : ℕ) (x : T) → t < length xs → x ≡ get_or xs t x → value x ≡ at K (map value xs) t
@@ -48,13 +49,13 @@ module _ (K : Kind) (n m j : ℕ) (lt : j < m) (rows : List (ℕ × List K.Num))
   abbrev next : ℕ → List K.Num → Handled K.Num
   next k q = handled K n rows (m - (j + 1)) k q
 
-  opened : handled K n rows (m - j) j r ≡ cond (K.is_zero (at K r (n + j))) (next (j + 1) r) (or_else (kept_under rows j) (kept j (negated_if K (K.below (at K r (n + j))) r)) (λ s. cond (any_past K (by_step s)) passes (next (j + 1) (by_step s))))
+  opened : handled K n rows (m - j) j r ≡ cond (K.is_zero (at K r (n + j))) (next (j + 1) r) (option_map_or (λ s. cond (any_past K (by_step s)) passes (next (j + 1) (by_step s))) (kept_under rows j) (kept j (negated_if K (K.below (at K r (n + j))) r)))
   unfolding handled
   opened =
       let e : m - j ≡ suc (m - (j + 1)) = omega arith in
       let f : suc j ≡ j + 1 = omega arith in
       ap (λ k. handled K n rows k j r) e
-      ∙ ap (λ k. cond (K.is_zero (at K r (n + j))) (next k r) (or_else (kept_under rows j) (kept j (negated_if K (K.below (at K r (n + j))) r)) (λ s. cond (any_past K (by_step s)) passes (next k (by_step s))))) f
+      ∙ ap (λ k. cond (K.is_zero (at K r (n + j))) (next k r) (option_map_or (λ s. cond (any_past K (by_step s)) passes (next k (by_step s))) (kept_under rows j) (kept j (negated_if K (K.below (at K r (n + j))) r)))) f
 
   pub passes_by : K.is_zero (at K r (n + j)) ≡ true → handled K n rows (m - j) j r ≡ next (j + 1) r
   passes_by z = opened ∙ simp z

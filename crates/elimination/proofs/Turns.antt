@@ -1,10 +1,13 @@
 -- One row of an elimination, and the starting rows.
-use Rattle.std.proofs.Common.{◌≡◌, ℕ, zero, suc, ◌+◌, ◌-◌, ◌*◌, ◌<◌, ◌≤◌, true, false, cond, List, [], ◌∷◌, ◌++◌, map, length, take, drop, ℤ, Some, None, Ok, Err, sym, refl, ap, ◌∙◌, ap₂, suc-mul, zero-mul, arith}
+use Rattle.std.proofs.Common.{◌≡◌, ℕ, zero, suc, ◌+◌, ◌-◌, ◌*◌, ◌<◌, ◌≤◌, true, false, cond, List, [], ◌∷◌, ◌++◌, map, length, take, drop, ℤ, Some, None, Ok, Err, Result, MatchResult, sym, refl, ap, ◌∙◌, ap₂, subst, suc-mul, zero-mul, arith}
 use Rattle.std.proofs.lemmas.List.{drop-drop, drop_all, take-map, drop-map}
+use Rattle.std.specs.Option.{option_map_or}
+use Rattle.std.specs.Result.{result_or}
 use Rattle.kinds.specs.Kinds.{Kind}
-use Rattle.kinds.specs.Elimination.{or_else, Handled, handled, any_past, State, added, eliminated, unit, starts, eliminate}
+use Rattle.kinds.specs.Elimination.{Handled, handled, any_past, State, added, eliminated, unit, starts, eliminate}
 use Rattle.elimination.specs.Memory.{rows_of, kept_of, state_of}
 use Rattle.elimination.specs.Answers.{balances_of}
+use Rattle.elimination.proofs.Written.{length_rows}
 
 module _ (K : Kind) (n m : ℕ) where
   starts_more : (i k b : ℕ) (xs : List K.Num) → i < k → drop i (starts K n b (rows_of k m xs)) ≡ (unit K n (b + i) ++ take m (drop (i * m) xs)) ∷ drop (i + 1) (starts K n b (rows_of k m xs))
@@ -25,17 +28,13 @@ module _ (K : Kind) (n m : ℕ) where
   length_starts zero b xs = refl
   length_starts (suc k) b xs = ap suc (length_starts k (suc b) (drop m xs))
 
-  pub length_rows : (k : ℕ) (xs : List K.Num) → length (rows_of k m xs) ≡ k
-  length_rows zero xs = refl
-  length_rows (suc k) xs = ap suc (length_rows k (drop m xs))
-
   -- the starting rows from number k on
   abbrev pub left : List ℤ → ℕ → List (List K.Num)
   left xs k = drop k (starts K n 0 (rows_of n m (map K.counts xs)))
 
   pub begins : (xs : List ℤ) → eliminated K n m (record { rows = []; balances = [] }) 0 (left xs 0) ≡ balances_of K n m xs
   unfolding eliminate
-  begins xs = ap (λ k. eliminated K k m (record { rows = []; balances = [] }) 0 (starts K k 0 (rows_of n m (map K.counts xs)))) (sym (length_rows n (map K.counts xs)))
+  begins xs = ap (λ k. eliminated K k m (record { rows = []; balances = [] }) 0 (starts K k 0 (rows_of n m (map K.counts xs)))) (sym (length_rows m n (map K.counts xs)))
 
   pub ends : (xs : List ℤ) (s : State K.Num) (b : ℕ) → n ≤ b → eliminated K n m s b (left xs b) ≡ Ok s.balances
   unfolding eliminated
@@ -45,14 +44,14 @@ module _ (K : Kind) (n m b : ℕ) (lt : b < n) (xs part : List ℤ) (ep : part �
   abbrev r : List K.Num
   r = unit K n b ++ map K.counts part
 
-  opened : eliminated K n m s b (left K n m xs b) ≡ cond (any_past K r) (Err b) (or_else (added K n s (handled K n s.rows m 0 r)) (Err b) (λ t. eliminated K n m t (b + 1) (left K n m xs (b + 1))))
+  opened : eliminated K n m s b (left K n m xs b) ≡ cond (any_past K r) (Err b) (option_map_or (λ t. eliminated K n m t (b + 1) (left K n m xs (b + 1))) (added K n s (handled K n s.rows m 0 r)) (Err b))
   unfolding eliminated
   opened =
       let e : suc b ≡ b + 1 = omega arith in
       let z : 0 + b ≡ b = omega arith in
       let p = ap (map K.counts) ep ∙ sym (take-map K.counts m (drop (b * m) xs)) ∙ ap (take m) (sym (drop-map K.counts (b * m) xs)) in
       ap (eliminated K n m s b) (starts_more K n m b n 0 (map K.counts xs) lt ∙ ap₂ (λ x y. (unit K n x ++ y) ∷ left K n m xs (b + 1)) z (sym p))
-      ∙ ap (λ k. cond (any_past K r) (Err b) (or_else (added K n s (handled K n s.rows m 0 r)) (Err b) (λ t. eliminated K n m t k (left K n m xs (b + 1))))) e
+      ∙ ap (λ k. cond (any_past K r) (Err b) (option_map_or (λ t. eliminated K n m t k (left K n m xs (b + 1))) (added K n s (handled K n s.rows m 0 r)) (Err b))) e
 
   pub starts_past : any_past K r ≡ true → eliminated K n m s b (left K n m xs b) ≡ Err b
   starts_past e = opened ∙ simp e
@@ -77,3 +76,12 @@ pub nothing_written : (K : Kind) (n found : ℕ) (weights : List ℤ) → found 
 nothing_written K n found weights e =
     let z : found * n ≡ 0 = ap (λ k. k * n) e ∙ zero-mul n in
     ap (λ k. map K.writes (map K.counts (take k weights))) z ∙ sym (ap (λ k. take k weights) z)
+
+-- a row's refusal under its number
+pub refused : {X E D : Type 0} (r : Result X E) (l e : D) (P : X → Type 0) (Q : E → Type 0) → result_or r (Err l) ≡ Err e → MatchResult r P Q → (e ≡ l) × ((x : E) × Q x)
+refused (Ok y) l e P Q h m = absurd (let z : ◌≡◌ {A = ℕ} 0 1 = cc in omega arith)
+refused (Err x) l e P Q h m = (cc, (x, m))
+
+pub passed : {X E D : Type 0} (r : Result X E) (l : D) (x : X) (P : X → Type 0) (Q : E → Type 0) → result_or r (Err l) ≡ Ok x → MatchResult r P Q → P x
+passed (Ok y) l x P Q h m = let e : y ≡ x = cc in subst P e m
+passed (Err e) l x P Q h m = absurd (let z : ◌≡◌ {A = ℕ} 0 1 = cc in omega arith)

@@ -2,6 +2,7 @@
 #![tactic(auto)]
 
 mod filed;
+mod kept;
 mod reduce;
 mod rows;
 mod solve;

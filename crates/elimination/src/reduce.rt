@@ -1,21 +1,14 @@
 // One row against the rows that are kept.
 ghost use Rattle.std.specs.Prelude.{◌≡◌, ℕ, ◌+◌, ◌-◌, ◌*◌, ◌<◌, ◌≤◌, true, false, map, length, Some, None, IfSome, OnOk, OnErr, MatchOption, MatchResult, ◌≢◌, slice_index};
 ghost use Rattle.kinds.specs.Elimination.{at, stepped, any_past, negated_if, kept_under, handled, passes};
-ghost use Rattle.elimination.specs.Memory.{kept_of, told, ends_below};
+ghost use Rattle.elimination.specs.Memory.{told, ends_below};
+ghost use Rattle.elimination.specs.States.{kept_in};
 
+use crate::kept::Kept;
 use crate::rows::{
     PastLimit, combine_row, divide_row, leads_below, negate_when, row_at, row_divisor, store_row,
 };
 use kinds::Number;
-
-// The rows that are kept, of `size` numbers each, one after another, and the column of each one's lowest term.
-#[derive(Drop)]
-pub(crate) struct Kept<'a, T> {
-    pub(crate) size: usize,
-    pub(crate) leads: &'a [usize],
-    pub(crate) rows: &'a [T],
-    ghost whole: { length leads.now * size ≤ length rows.now },
-}
 
 // The first kept row whose lowest term is in column j.
 fn find_lead(leads: &[usize], j: usize) -> Option<usize>
@@ -27,11 +20,9 @@ fn find_lead(leads: &[usize], j: usize) -> Option<usize>
 impl<'a, T: Number> Kept<'a, T> {
     // The kept row whose lowest term is in column j.
     fn led_by(&self, j: usize) -> Option<&'a [T]>
-        ensures { MatchOption result (kept_under (kept_of self.now.size self.now.leads.now (map T.value self.now.rows.now)) j ≡ None) (λ row. (length row.now ≡ self.now.size) × (kept_under (kept_of self.now.size self.now.leads.now (map T.value self.now.rows.now)) j ≡ Some (map T.value row.now))) }
+        ensures { MatchOption result (kept_under (kept_in T.value self.now) j ≡ None) (λ row. (length row.now ≡ self.now.size) × (kept_under (kept_in T.value self.now) j ≡ Some (map T.value row.now))) }
     {
-        let Some(r) = find_lead(self.leads, j) else {
-            return None;
-        };
+        let r = find_lead(self.leads, j)?;
         Some(row_at(self.rows, self.size, r))
     }
 }
@@ -67,7 +58,7 @@ fn reduce<T: Number>(
     requires room { length wide_row.old ≡ length row.old }
     requires alike { kept.now.size ≡ length row.old }
     requires inside { n ≤ length row.old }
-    ensures { MatchResult result (λ lead. IfSome lead (λ j. j < length row.old - n) × (told T.kind lead (negated_if T.kind (ends_below T.kind n lead (map T.value row.new)) (map T.value row.new)) ≡ handled T.kind n (kept_of kept.now.size kept.now.leads.now (map T.value kept.now.rows.now)) (length row.old - n) 0 (map T.value row.old))) (λ e. passes ≡ handled T.kind n (kept_of kept.now.size kept.now.leads.now (map T.value kept.now.rows.now)) (length row.old - n) 0 (map T.value row.old)) }
+    ensures { MatchResult result (λ lead. IfSome lead (λ j. j < length row.old - n) × (told T.kind lead (negated_if T.kind (ends_below T.kind n lead (map T.value row.new)) (map T.value row.new)) ≡ handled T.kind n (kept_in T.value kept.now) (length row.old - n) 0 (map T.value row.old))) (λ e. passes ≡ handled T.kind n (kept_in T.value kept.now) (length row.old - n) 0 (map T.value row.old)) }
 {
     for j in 0..row.len() - n {
         if row[n + j].is_zero() {
@@ -103,7 +94,7 @@ pub(crate) fn handle<T: Number>(
     requires room { length wide_row.old ≡ length row.old }
     requires alike { kept.now.size ≡ length row.old }
     requires inside { n ≤ length row.old }
-    ensures { MatchResult result (λ lead. told T.kind lead (map T.value row.new) ≡ handled T.kind n (kept_of kept.now.size kept.now.leads.now (map T.value kept.now.rows.now)) (length row.old - n) 0 (map T.value row.old)) (λ e. passes ≡ handled T.kind n (kept_of kept.now.size kept.now.leads.now (map T.value kept.now.rows.now)) (length row.old - n) 0 (map T.value row.old)) }
+    ensures { MatchResult result (λ lead. told T.kind lead (map T.value row.new) ≡ handled T.kind n (kept_in T.value kept.now) (length row.old - n) 0 (map T.value row.old)) (λ e. passes ≡ handled T.kind n (kept_in T.value kept.now) (length row.old - n) 0 (map T.value row.old)) }
 {
     let lead = reduce(row, wide_row, kept, n)?;
     let below = ends_below(row, n, lead);

@@ -31,10 +31,7 @@ pub(crate) fn set_coefficients<T: Number>(
     ensures past { OnErr result (any_past T.kind (map T.kind.counts coefficients.now) ≡ true) }
 {
     for (i, k) in coefficients.iter().enumerate() {
-        let Some(x) = T::counted(*k) else {
-            return Err(PastLimit);
-        };
-        row[n + i] = x;
+        row[n + i] = T::counted(*k).ok_or(PastLimit)?;
     }
     Ok(())
 }
@@ -70,11 +67,7 @@ pub(crate) fn combine_row<T: Number>(out: &mut [T::Wide], a: T, row: &[T], c: T,
 pub(crate) fn row_divisor<T: Number>(row: &[T::Wide]) -> T::Wide
     ensures { T.wide result ≡ divisor_from T.kind T.kind.zero (map T.wide row.now) }
 {
-    let mut d = T::wide_zero();
-    for x in row {
-        d = T::divisor(d, *x);
-    }
-    d
+    row.iter().fold(T::wide_zero(), |d, x| T::divisor(d, *x))
 }
 
 pub(crate) fn divide_row<T: Number>(row: &mut [T::Wide], d: T::Wide)
@@ -92,10 +85,7 @@ pub(crate) fn store_row<T: Number>(row: &mut [T], from: &[T::Wide]) -> Result<()
     ensures past { OnErr result (any_past T.kind (map T.wide from.now) ≡ true) }
 {
     for (i, w) in from.iter().enumerate() {
-        let Some(x) = T::narrowed(*w) else {
-            return Err(PastLimit);
-        };
-        row[i] = x;
+        row[i] = T::narrowed(*w).ok_or(PastLimit)?;
     }
     Ok(())
 }
@@ -105,12 +95,10 @@ pub(crate) fn leads_below<T: Number>(row: &[T], n: usize) -> bool
     requires { n ≤ length row.now }
     ensures { result ≡ leads_below T.kind n (map T.value row.now) }
 {
-    for x in &row[0..n] {
-        if !x.is_zero() {
-            return x.is_below_zero();
-        }
-    }
-    false
+    row[0..n]
+        .iter()
+        .find(|x| !x.is_zero())
+        .is_some_and(|x| x.is_below_zero())
 }
 
 fn negate_row<T: Number>(row: &mut [T])

@@ -7,7 +7,8 @@ ghost use Rattle.elimination.specs.Answers.{sizes_fit, balances_of, solved, Exac
 ghost use Rattle.elimination.specs.declared.solve.EliminationError.TheVariants.{Sizes, LargeNumber};
 
 use crate::filed::{CELLS, COLUMNS, Filed, ROWS, SIZE};
-use crate::reduce::{Kept, handle};
+use crate::kept::Kept;
+use crate::reduce::handle;
 use crate::rows::{row_at, start_row};
 use kinds::{Number, Parity, Whole};
 
@@ -81,13 +82,10 @@ fn eliminate<T: Number>(
     let mut filed = Filed::new();
     for b in 0..table.n {
         let large = EliminationError::LargeNumber(b);
-        let Ok(()) = start_row(row, table.n, b, table.row(b)) else {
-            return Err(large);
-        };
+        start_row(row, table.n, b, table.row(b)).or(Err(large))?;
         let leads = &filed.leads[0..filed.used];
-        let Ok(lead) = handle(row, wide_row, &Kept { size, leads, rows }, table.n) else {
-            return Err(large);
-        };
+        let kept = Kept { size, leads, rows };
+        let lead = handle(row, wide_row, &kept, table.n).or(Err(large))?;
         filed.keep(lead, row, table.n, rows);
     }
     Ok(filed)

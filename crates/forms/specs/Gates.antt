@@ -1,5 +1,6 @@
 -- The form of every line of a sheet, and the limits on the forms of its gates.
-use Rattle.std.specs.Prelude.{ℕ, ◌+◌, ◌^◌, Bool, false, cond, ◌||◌, List, [], ◌∷◌, ◌++◌, length, pos, Ok, Result, nat_lt, slice_index_or, unsigned_abs}
+use Rattle.std.specs.Prelude.{ℕ, ◌+◌, ◌^◌, Bool, cond, List, [], ◌∷◌, ◌++◌, length, pos, Ok, Result, nat_lt, slice_index_or, unsigned_abs}
+use Rattle.std.specs.List.{list_any}
 use Rattle.sheet.specs.declared.node.Node.{Node}
 use Rattle.sheet.specs.declared.node.Node.TheVariants.{Free, Belt, Gate}
 use Rattle.sheet.specs.declared.node.Gate.{Gate as Logic}
@@ -36,8 +37,7 @@ forms_of ns = forms_from 0 [] ns
 
 -- a coefficient passes 8,388,608 either way
 abbrev pub large : Form → Bool
-large [] = false
-large (t ∷ p) = nat_lt 8388608 (unsigned_abs t.1) || large p
+large = list_any (λ t. nat_lt 8388608 (unsigned_abs t.1))
 
 -- the terms of the gates' forms together, with the form of this line, or the limit that it passes
 abbrev pub together : ℕ → ℕ → Node → Form → Result ℕ Fault

@@ -2,9 +2,10 @@
 
 #[cfg(test)]
 mod tests {
-    use forms::{same_form, terms};
+    use forms::{Forms, same_form, terms};
     use sheet::fault::Fault;
     use sheet::sheet::Sheet;
+    use std::test::Fail;
     use terms::Term;
 
     const UNREAD: Term = Term {
@@ -90,5 +91,16 @@ mod tests {
         assert_eq!(rt; compared(ALIKE, 6, 7), (0, 0));
         assert_eq!(rt; compared(ALIKE, 0, 1), (0, 0));
         assert_eq!(rt; compared(WIDE, 11, 12), (0, 1));
+    }
+
+    // Forms print as the terms of each line.
+    #[test]
+    fn forms_print(rt: HostRuntime) -> Result<(), Fail> {
+        let sheet = Sheet::load(b"kind left right\n0 - -\n1 - -\n")?;
+        assert_eq!(rt;
+            format!(in rt.alloc(); "{:?}", Forms::of(&sheet)?)?.as_str(),
+            "[[], [Term { set: [0, 0, 0, 0, 0, 0, 0, 0, 0, 0, 0, 0, 0, 0, 0, 0], coefficient: 1 }]]"
+        );
+        Ok(())
     }
 }

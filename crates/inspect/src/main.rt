@@ -4,12 +4,13 @@ mod explain;
 mod report;
 
 use report::{print_refusal, print_sheet};
+use sheet::limits::MOST_BYTES;
 use sheet::sheet::Sheet;
 use std::io::Read;
 use std::process::ExitCode;
 
 // One byte more than the longest sheet, so that a longer text is seen to be too long.
-const MOST_READ: u64 = 8193;
+const MOST_READ: u64 = MOST_BYTES as u64 + 1;
 
 fn run(rt: &HostRuntime) -> anyhow::Result<ExitCode> {
     let mut text = Vec::new(rt.alloc());

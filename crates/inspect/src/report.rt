@@ -88,11 +88,10 @@ pub(crate) fn print_sheet(rt: &HostRuntime, sheet: &Sheet) -> anyhow::Result<()>
     print_counts(rt, sheet)?;
     println!(rt; "\nbelt  line  offer  take  room  item  bits")?;
     let nodes = sheet.nodes();
-    let belts = nodes.iter().enumerate().filter_map(|(line, node)| match *node {
-        Node::Belt { offer, take } => Some((line, offer, take)),
-        _ => None,
-    });
-    for (number, (line, offer, take)) in belts.enumerate() {
+    let belts = nodes.iter().enumerate().filter_map(|(line, node)| node
+        .offer_and_take()
+        .map(|wires| (line, wires)));
+    for (number, (line, (offer, take))) in belts.enumerate() {
         let belt = Belt {
             nodes,
             number,

@@ -3,8 +3,9 @@ use Rattle.std.proofs.Common.{◌≡◌, ℕ, zero, suc, ◌+◌, Bool, true, fa
 use native.Mathlib.Decide.{ℕ_discrete}
 use Rattle.std.proofs.lemmas.Bool.{cond_both, cond-true, cond-false, eq-eqb, ne_eqb}
 use Rattle.std.proofs.lemmas.List.{append_assoc, append-nil}
+use Rattle.std.specs.Option.{option_map_or, is_none}
 use Rattle.kinds.specs.Kinds.{Kind, Lawful}
-use Rattle.kinds.specs.Elimination.{kept_under, or_else, at, starts, Handled, kept, balance, passes, any_past, stepped, negated_if, handled, added, eliminated, eliminate}
+use Rattle.kinds.specs.Elimination.{kept_under, at, starts, Handled, kept, balance, passes, any_past, stepped, negated_if, handled, added, eliminated, eliminate}
 use Rattle.kinds.specs.Completeness.{Sound, Exactly, Shaped, StepsClear}
 use Rattle.kinds.proofs.Filing.{put, with_balance, by_case, filed_handled, filed_eliminated, filed_eliminate}
 use Rattle.kinds.proofs.Ring.{found_nonzero, neg_zero, neg_neg, mul_zero}
@@ -13,10 +14,6 @@ use Rattle.kinds.proofs.Filed.{put_same, put_other}
 use Rattle.kinds.proofs.Division.{step, step_clears}
 use Rattle.kinds.proofs.Finding.{filed_sound, filed_exactly}
 use Rattle.kinds.proofs.Shape.{filed_shaped}
-
-abbrev is_none : {A : Type 0} → Option A → Bool
-is_none None = true
-is_none (Some y) = false
 
 -- one row more at the end
 found_new : {A : Type 0} (rows : List (ℕ × List A)) (j : ℕ) (q : List A) → kept_under rows j ≡ None → kept_under (rows ++ ((j, q) ∷ [])) j ≡ Some q
@@ -56,7 +53,7 @@ module _ {K : Kind} (L : Lawful K) where
 
   inner : (n j : ℕ) (c : A) (r : List A) (X : Handled A) (f g : List A → Handled A) → ((q : List A) → f q ≡ g q) → (o : Option (List A)) (s : List A) → Match n j o s
       → cond (is_zero (at K s (n + j))) X (cond (any_past K (stepped K c (at K s (n + j)) r s)) passes (f (stepped K c (at K s (n + j)) r s)))
-      ≡ or_else o X (λ u. cond (any_past K (stepped K c (at K u (n + j)) r u)) passes (g (stepped K c (at K u (n + j)) r u)))
+      ≡ option_map_or (λ u. cond (any_past K (stepped K c (at K u (n + j)) r u)) passes (g (stepped K c (at K u (n + j)) r u))) o X
   inner n j c r X f g h None s m =
       cond-true (is_zero (at K s (n + j))) X (cond (any_past K (stepped K c (at K s (n + j)) r s)) passes (f (stepped K c (at K s (n + j)) r s)))
       (ap (λ u. is_zero (at K u (n + j))) m ∙ L.zero_found)
@@ -86,7 +83,7 @@ module _ {K : Kind} (L : Lawful K) where
   good n rows (suc columns) j r = go (λ q. good n rows columns (suc j) q)
     where
       by_option : ((q : List A) → Good n rows (handled K n rows columns (suc j) q)) → is_zero (at K r (n + j)) ≡ false → (o : Option (List A)) → kept_under rows j ≡ o
-          → Good n rows (or_else o (kept j (negated_if K (below (at K r (n + j))) r)) (λ s. cond (any_past K (stepped K (at K r (n + j)) (at K s (n + j)) r s)) passes (handled K n rows columns (suc j) (stepped K (at K r (n + j)) (at K s (n + j)) r s))))
+          → Good n rows (option_map_or (λ s. cond (any_past K (stepped K (at K r (n + j)) (at K s (n + j)) r s)) passes (handled K n rows columns (suc j) (stepped K (at K r (n + j)) (at K s (n + j)) r s))) o (kept j (negated_if K (below (at K r (n + j))) r)))
       by_option ih nz None e = (e, signed_stays (below (at K r (n + j))) r (n + j) (found_nonzero L (at K r (n + j)) nz))
       by_option ih nz (Some s) e =
           cond_both (any_past K (stepped K (at K r (n + j)) (at K s (n + j)) r s)) passes (handled K n rows columns (suc j) (stepped K (at K r (n + j)) (at K s (n + j)) r s)) (Good n rows)
@@ -95,7 +92,7 @@ module _ {K : Kind} (L : Lawful K) where
       go : ((q : List A) → Good n rows (handled K n rows columns (suc j) q)) → Good n rows (handled K n rows (suc columns) j r)
       go ih =
           cond_both (is_zero (at K r (n + j))) (handled K n rows columns (suc j) r)
-          (or_else (kept_under rows j) (kept j (negated_if K (below (at K r (n + j))) r)) (λ s. cond (any_past K (stepped K (at K r (n + j)) (at K s (n + j)) r s)) passes (handled K n rows columns (suc j) (stepped K (at K r (n + j)) (at K s (n + j)) r s))))
+          (option_map_or (λ s. cond (any_past K (stepped K (at K r (n + j)) (at K s (n + j)) r s)) passes (handled K n rows columns (suc j) (stepped K (at K r (n + j)) (at K s (n + j)) r s))) (kept_under rows j) (kept j (negated_if K (below (at K r (n + j))) r)))
           (Good n rows) (λ _. ih r) (λ nz. by_option ih nz (kept_under rows j) refl)
 
   matches_more : (n : ℕ) (filed : List (List A)) (rows : List (ℕ × List A)) (j : ℕ) (q : List A) → Matches n filed rows → kept_under rows j ≡ None → at K q (n + j) ≢ 𝟘 → Matches n (put filed j q) (rows ++ ((j, q) ∷ []))
@@ -128,14 +125,14 @@ module _ {K : Kind} (L : Lawful K) where
   same_rows n m b filed rows ws (r ∷ rs) h = by_past (any_past K r) _ _ (same_case (λ f k us. same_rows n m (suc b) f k us rs))
     where
       same_case : ((f : List (List A)) (k : List (ℕ × List A)) (us : List (List A)) → Matches n f k → eliminated K n m (record { rows = k; balances = us }) (suc b) rs ≡ onto us (filed_eliminated K n m f (suc b) rs))
-          → or_else (added K n (record { rows = rows; balances = ws }) (handled K n rows m 0 r)) (Err b) (λ more. eliminated K n m more (suc b) rs)
+          → option_map_or (λ more. eliminated K n m more (suc b) rs) (added K n (record { rows = rows; balances = ws }) (handled K n rows m 0 r)) (Err b)
           ≡ onto ws (by_case (λ j q. filed_eliminated K n m (put filed j q) (suc b) rs) (λ q. with_balance (take n q) (filed_eliminated K n m filed (suc b) rs)) (Err b) (filed_handled K n filed m 0 r))
       same_case ih =
           go (handled K n rows m 0 r) (good n rows m 0 r)
           ∙ ap (λ x. onto ws (by_case (λ j q. filed_eliminated K n m (put filed j q) (suc b) rs) (λ q. with_balance (take n q) (filed_eliminated K n m filed (suc b) rs)) (Err b) x)) (sym (same_row n filed rows h m 0 r))
         where
           go : (x : Handled A) → Good n rows x
-              → or_else (added K n (record { rows = rows; balances = ws }) x) (Err b) (λ more. eliminated K n m more (suc b) rs)
+              → option_map_or (λ more. eliminated K n m more (suc b) rs) (added K n (record { rows = rows; balances = ws }) x) (Err b)
               ≡ onto ws (by_case (λ j q. filed_eliminated K n m (put filed j q) (suc b) rs) (λ q. with_balance (take n q) (filed_eliminated K n m filed (suc b) rs)) (Err b) x)
           go (kept j q) g = ih (put filed j q) (rows ++ ((j, q) ∷ [])) ws (matches_more n filed rows j q h g.0 g.1)
           go (balance q) g = ih filed rows (ws ++ take n q ∷ []) h ∙ onto_with ws (take n q) (filed_eliminated K n m filed (suc b) rs)

@@ -5,36 +5,6 @@ use Rattle.kinds.specs.Elimination.{at, less, divisor_from, over, divided, stepp
 use Rattle.kinds.proofs.Ring.{mul_left_comm, mul_zero, zero_mul, neg_add}
 use Rattle.kinds.proofs.Comb.{at_map, at_less}
 
-module _ {K : Kind} (L : Lawful K) where
-  pub divides_trans : {d e x : K.Num} → Divides K d e → Divides K e x → Divides K d x
-  divides_trans {d} (q, h) (p, k) = (K.mul q p, sym (L.mul_assoc d q p) ∙ ap (λ u. K.mul u p) h ∙ k)
-
-module _ {K : Kind} (L : Lawful K) where
-  open K use {Num as A, zero as 𝟘, one as 𝟙, add as ◌⊕◌, mul as ◌⊗◌, neg as ⊖◌, is_zero}
-  open K use {divisor, quotient}
-
-  infixl 6 ◌⊕◌
-  infixl 7 ◌⊗◌
-  infix 8 ⊖◌
-  from_divides_start : (d : A) (r : List A) → Divides K (divisor_from K d r) d
-  from_divides_start d [] = (𝟙, L.mul_one d)
-  from_divides_start d (x ∷ xs) = divides_trans L (from_divides_start (divisor d x) xs) (L.divides_left d x)
-
-  from_divides_each : (d : A) (r : List A) (i : ℕ) → Divides K (divisor_from K d r) (at K r i)
-  from_divides_each d [] i = (𝟘, mul_zero L d)
-  from_divides_each d (x ∷ xs) zero = divides_trans L (from_divides_start (divisor d x) xs) (L.divides_right d x)
-  from_divides_each d (x ∷ xs) (suc i) = from_divides_each (divisor d x) xs i
-
-  at_over : (d : A) (r : List A) (i : ℕ) → at K (over K d r) i ≡ quotient (at K r i) d
-  at_over d = at_map L (λ x. quotient x d) (L.zero_quotient d)
-
-  pub divided_exact : (r : List A) (i : ℕ) → divisor_from K 𝟘 r ⊗ at K (divided K r) i ≡ at K r i
-  divided_exact r i =
-      ap (λ u. divisor_from K 𝟘 r ⊗ u) (at_over (divisor_from K 𝟘 r) r i) ∙ L.exact (at K r i) (divisor_from K 𝟘 r) (from_divides_each 𝟘 r i)
-
-  pub divided_zero : (r : List A) (i : ℕ) → at K r i ≡ 𝟘 → at K (divided K r) i ≡ 𝟘
-  divided_zero r i e = at_over (divisor_from K 𝟘 r) r i ∙ ap (λ u. quotient u (divisor_from K 𝟘 r)) e ∙ L.zero_quotient _
-
 -- q comes from r by a step against s: a times r is e times q and c times s
 pub record Step (K : Kind) (r s q : List K.Num) : Type 0 where
   pub a : K.Num
@@ -52,6 +22,28 @@ module _ {K : Kind} (L : Lawful K) where
   infixl 6 ◌⊕◌
   infixl 7 ◌⊗◌
   infix 8 ⊖◌
+  pub divides_trans : {d e x : K.Num} → Divides K d e → Divides K e x → Divides K d x
+  divides_trans {d} (q, h) (p, k) = (K.mul q p, sym (L.mul_assoc d q p) ∙ ap (λ u. K.mul u p) h ∙ k)
+
+  from_divides_start : (d : A) (r : List A) → Divides K (divisor_from K d r) d
+  from_divides_start d [] = (𝟙, L.mul_one d)
+  from_divides_start d (x ∷ xs) = divides_trans (from_divides_start (divisor d x) xs) (L.divides_left d x)
+
+  from_divides_each : (d : A) (r : List A) (i : ℕ) → Divides K (divisor_from K d r) (at K r i)
+  from_divides_each d [] i = (𝟘, mul_zero L d)
+  from_divides_each d (x ∷ xs) zero = divides_trans (from_divides_start (divisor d x) xs) (L.divides_right d x)
+  from_divides_each d (x ∷ xs) (suc i) = from_divides_each (divisor d x) xs i
+
+  at_over : (d : A) (r : List A) (i : ℕ) → at K (over K d r) i ≡ quotient (at K r i) d
+  at_over d = at_map L (λ x. quotient x d) (L.zero_quotient d)
+
+  pub divided_exact : (r : List A) (i : ℕ) → divisor_from K 𝟘 r ⊗ at K (divided K r) i ≡ at K r i
+  divided_exact r i =
+      ap (λ u. divisor_from K 𝟘 r ⊗ u) (at_over (divisor_from K 𝟘 r) r i) ∙ L.exact (at K r i) (divisor_from K 𝟘 r) (from_divides_each 𝟘 r i)
+
+  pub divided_zero : (r : List A) (i : ℕ) → at K r i ≡ 𝟘 → at K (divided K r) i ≡ 𝟘
+  divided_zero r i e = at_over (divisor_from K 𝟘 r) r i ∙ ap (λ u. quotient u (divisor_from K 𝟘 r)) e ∙ L.zero_quotient _
+
   pub back : (x y : A) → (x ⊕ (⊖ y)) ⊕ y ≡ x
   back x y = L.add_assoc _ _ _ ∙ ap (λ u. x ⊕ u) (neg_add L y) ∙ L.add_zero x
 
@@ -76,9 +68,9 @@ module _ {K : Kind} (L : Lawful K) where
         c = c';
         e = e;
         nonzero = λ z. hp (sym (L.exact p g (L.divides_right c p)) ∙ ap (λ u. g ⊗ u) z ∙ mul_zero L g);
-        is = λ i. sym (ap (λ u. u ⊕ (c' ⊗ at K s i)) (divided_exact L l i ∙ at_less L p' r c' s i) ∙ back _ _);
-        none = λ z i. divided_zero L l i (sym (divided_exact L l i) ∙ ap (λ u. u ⊗ at K (divided K l) i) z ∙ zero_mul L _);
-        clears = λ i h. divided_zero L l i (at_less L p' r c' s i ∙ ap (λ u. u ⊕ (⊖ (c' ⊗ at K s i))) h ∙ L.add_neg _);
+        is = λ i. sym (ap (λ u. u ⊕ (c' ⊗ at K s i)) (divided_exact l i ∙ at_less L p' r c' s i) ∙ back _ _);
+        none = λ z i. divided_zero l i (sym (divided_exact l i) ∙ ap (λ u. u ⊗ at K (divided K l) i) z ∙ zero_mul L _);
+        clears = λ i h. divided_zero l i (at_less L p' r c' s i ∙ ap (λ u. u ⊕ (⊖ (c' ⊗ at K s i))) h ∙ L.add_neg _);
       }
 
   -- the step's own column is cleared

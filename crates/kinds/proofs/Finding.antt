@@ -2,6 +2,7 @@
 use Rattle.std.proofs.Common.{◌≡◌, ℕ, zero, suc, ◌+◌, ◌<◌, ◌≤◌, Bool, true, false, cond, ◌≢◌, ◌↔◌, List, [], ◌∷◌, ◌++◌, length, get_or, take, replicate, Ok, Err, Result, sym, refl, ap, ◌∙◌, subst, ap₂, inl, inr, arith}
 use native.Mathlib.Nat as NatL
 use Rattle.std.specs.List.{AllByRecursion}
+use Rattle.std.proofs.lemmas.List.{get_or-take}
 use Rattle.kinds.specs.Kinds.{Kind, Lawful}
 use Rattle.kinds.specs.Elimination.{at, unit, starts, any_past, Handled, kept, balance, passes}
 use Rattle.kinds.proofs.Filing.{put, filed_handled, by_case, with_balance, filed_eliminated, filed_eliminate}
@@ -47,12 +48,6 @@ module _ {K : Kind} (L : Lawful K) where
   comb_below : (x y : ℕ → A) (rs : List (List A)) (i : ℕ) → ((k : ℕ) → k < length rs → x k ≡ y k) → comb K x rs i ≡ comb K y rs i
   comb_below x y [] i h = refl
   comb_below x y (r ∷ rs) i h = ap₂ (λ u v. (u ⊗ at K r i) ⊕ v) (h zero (omega arith)) (comb_below (λ j. x (suc j)) (λ j. y (suc j)) rs i (λ k l. h (suc k) (omega arith)))
-
-  at_take : (n i : ℕ) (r : List A) → i < n → at K (take n r) i ≡ at K r i
-  at_take zero i r h = absurd (omega arith)
-  at_take (suc n) i [] h = refl
-  at_take (suc n) zero (x ∷ r) h = refl
-  at_take (suc n) (suc i) (x ∷ r) h = at_take n i r (omega arith)
 
   comb_unit : (fs : List (List A)) (b j : ℕ) (f : List A) → comb K (at K (unit K (length fs) b ++ f)) fs j ≡ at K (get_or fs b []) j
   comb_unit [] b j f = refl
@@ -156,7 +151,7 @@ module _ {K : Kind} (L : Lawful K) (m : ℕ) (fs : List (List K.Num)) where
   pub run_sound : {rows rs ws : List (List A)} → Run K n m fs rows rs ws → AllByRecursion (λ w. Vanishes K m fs (at K w)) ws
   run_sound (done f s) = tt
   run_sound (keeps j q r e k) = run_sound k
-  run_sound (finds q r z law k) = (λ j h. comb_below L (at K (take n q)) (at K q) fs j (λ i l. at_take L n i q l) ∙ sym (law j) ∙ z j h, run_sound k)
+  run_sound (finds q r z law k) = (λ j h. comb_below L (at K (take n q)) (at K q) fs j (λ i l. get_or-take n q i 𝟘 l) ∙ sym (law j) ∙ z j h, run_sound k)
 
   comb_scale : (k : A) (w : ℕ → A) (rs : List (List A)) (i : ℕ) → comb K (λ x. k ⊗ w x) rs i ≡ k ⊗ comb K w rs i
   comb_scale k w [] i = sym (mul_zero L k)
@@ -200,7 +195,7 @@ module _ {K : Kind} (L : Lawful K) (m : ℕ) (fs : List (List K.Num)) where
         multiples = first (made.factor ⊗ a) made.multiples;
         sum = λ i l.
             L.mul_assoc _ _ _ ∙ ap (λ x. made.factor ⊗ x) (all i) ∙ L.mul_add _ _ _
-            ∙ ap₂ (λ x y. x ⊕ y) (sym (L.mul_assoc _ _ _) ∙ ap (λ x. (made.factor ⊗ a) ⊗ x) (sym (at_take L n i q l))) (made.sum i l);
+            ∙ ap₂ (λ x y. x ⊕ y) (sym (L.mul_assoc _ _ _) ∙ ap (λ x. (made.factor ⊗ a) ⊗ x) (sym (get_or-take n q i 𝟘 l))) (made.sum i l);
       }
 
 module _ {K : Kind} (L : Lawful K) where

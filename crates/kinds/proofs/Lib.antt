@@ -7,4 +7,3 @@ pub mod Handling
 pub mod Finding
 pub mod Shape
 pub mod Arrival
-pub mod Exactness

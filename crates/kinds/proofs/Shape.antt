@@ -1,8 +1,8 @@
 -- The shape of what elimination answers: lengths and the limit. Assumes nothing.
 use Rattle.std.proofs.Common.{◌≡◌, ℕ, zero, suc, ◌+◌, ◌≤◌, Bool, true, false, ◌||◌, ◌≢◌, ◌⊎◌, List, [], ◌∷◌, map, length, get_or, take, replicate, Ok, Err, Result, sym, refl, ap, ◌∙◌, subst, ap₂, inl, inr, true≢false, arith}
-use Rattle.std.proofs.lemmas.List.{length-append, length-map, length-set, length-replicate}
+use Rattle.std.proofs.lemmas.List.{length-append, length-map, length-set, length-replicate, length-take-le}
 use Rattle.std.specs.List.{AllByRecursion}
-use Rattle.std.proofs.lemmas.Bool.{cond_both}
+use Rattle.std.proofs.lemmas.Bool.{cond_both, or_parts, or_from}
 use Rattle.kinds.specs.Kinds.{Kind, Lawful}
 use Rattle.kinds.specs.Elimination.{at, less, divisor_from, stepped, negated_if, leads_below, unit, starts, any_past, Handled, kept, balance, passes}
 use Rattle.kinds.proofs.Filing.{put, filed_handled, by_case, with_balance, filed_eliminated, filed_eliminate}
@@ -29,22 +29,6 @@ module _ {K : Kind} (L : Lawful K) where
   length_starts n b [] = refl
   length_starts n b (f ∷ fs) = ap suc (length_starts n (suc b) fs)
 
-or_left : (a b : Bool) → (a || b) ≡ false → a ≡ false
-or_left true b e = e
-or_left false b e = refl
-
-or_right : (a b : Bool) → (a || b) ≡ false → b ≡ false
-or_right true b e = absurd (true≢false e)
-or_right false b e = e
-
-or_both : (a b : Bool) → a ≡ false → b ≡ false → (a || b) ≡ false
-or_both a b e f = ap₂ (λ x y. x || y) e f
-
-length_front : {A : Type 0} (n m : ℕ) (r : List A) → length r ≡ n + m → length (take n r) ≡ n
-length_front zero m r e = refl
-length_front (suc n) m [] e = absurd (omega arith)
-length_front (suc n) m (x ∷ r) e = ap suc (length_front n m r (omega arith))
-
 module _ {K : Kind} (L : Lawful K) where
   open K use {Num as A, zero as 𝟘, is_zero}
 
@@ -55,7 +39,7 @@ module _ {K : Kind} (L : Lawful K) where
   past_front : (n : ℕ) (r : List A) → any_past K r ≡ false → any_past K (take n r) ≡ false
   past_front zero r e = refl
   past_front (suc n) [] e = refl
-  past_front (suc n) (x ∷ r) e = or_both (K.past x) (any_past K (take n r)) (or_left (K.past x) (any_past K r) e) (past_front n r (or_right (K.past x) (any_past K r) e))
+  past_front (suc n) (x ∷ r) e = let p = or_parts (K.past x) (any_past K r) e in or_from (K.past x) (any_past K (take n r)) p.0 (past_front n r p.1)
 
   -- a row of N numbers within the limit
   abbrev Fit : ℕ → List A → Type 0
@@ -125,7 +109,7 @@ module _ {K : Kind} (L : Lawful K) where
 
       go : (h : Handled A) → Fits (n + m) h → Weights n (suc (length rs)) (next h)
       go (kept j q) f = weights_more n (length rs) (filed_eliminated K n m (put rows j q) (suc b) rs) (ih (put rows j q) (suc b) (put_all (λ _ s. (s ≡ []) ⊎ Fit (n + m) s) rows j q slots (inr f)) all.1)
-      go (balance q) f = weights_with n (length rs) (take n q) (filed_eliminated K n m rows (suc b) rs) (length_front n m q f.0, past_front n q f.1) (ih rows (suc b) slots all.1)
+      go (balance q) f = weights_with n (length rs) (take n q) (filed_eliminated K n m rows (suc b) rs) (length-take-le n q (omega arith), past_front n q f.1) (ih rows (suc b) slots all.1)
       go passes f = tt
 
   shapes : (n m : ℕ) (rs : List (List A)) → Shapes n m rs

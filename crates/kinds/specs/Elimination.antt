@@ -1,17 +1,14 @@
 -- Elimination (Gaussian, without fractions) over any kind of number. A row is one list: its n weights, one for each row,
 -- then its coefficients, one for each column. Assumes nothing.
-use Rattle.std.specs.Prelude.{ℕ, zero, suc, ◌+◌, Bool, true, false, cond, ◌||◌, List, [], ◌∷◌, ◌++◌, map, length, take, replicate, Some, None, Ok, Err, Option, Result, ◌==◌, slice_index_or, slice_set}
+use Rattle.std.specs.Prelude.{ℕ, zero, suc, ◌+◌, Bool, true, false, cond, List, [], ◌∷◌, ◌++◌, map, length, take, replicate, Some, None, Ok, Err, Option, Result, ◌==◌, slice_index_or, slice_set}
+use Rattle.std.specs.List.{fold, list_any}
+use Rattle.std.specs.Option.{option_map_or}
 use Rattle.kinds.specs.Kinds.{Kind}
 
 -- of kept rows, each with the column of its lowest term: the first whose column is j
 abbrev pub kept_under : {A : Type 0} → List (ℕ × List A) → ℕ → Option (List A)
 kept_under [] j = None
 kept_under (x ∷ xs) j = cond (x.0 == j) (Some x.1) (kept_under xs j)
-
--- what f makes of a value, or y where there is none
-abbrev pub or_else : {A B : Type 0} → Option A → B → (A → B) → B
-or_else None y f = y
-or_else (Some x) y f = f x
 
 -- what becomes of a row: kept under the column of its lowest term, a balance, or past the limit
 pub data Handled (A : Type 0) : Type 0 where
@@ -39,8 +36,7 @@ module _ (K : Kind) where
 
   -- the divisor of d and all the numbers of a row
   abbrev pub divisor_from : Num → List Num → Num
-  divisor_from d [] = d
-  divisor_from d (x ∷ xs) = divisor_from (divisor d x) xs
+  divisor_from = fold divisor
 
   -- a row over d
   abbrev pub over : Num → List Num → List Num
@@ -56,8 +52,7 @@ module _ (K : Kind) where
 
   -- whether a number of a row is past the limit
   abbrev pub any_past : List Num → Bool
-  any_past [] = false
-  any_past (x ∷ xs) = past x || any_past xs
+  any_past = list_any past
 
   -- whether the first nonzero of the first n numbers is below zero
   abbrev pub leads_below : ℕ → List Num → Bool
@@ -77,7 +72,7 @@ module _ (K : Kind) where
       let c = at r (n + j) in
       let next = handled n rows columns (suc j) r in
       let against : List Num → Handled Num = λ s. let q = stepped c (at s (n + j)) r s in cond (any_past q) passes (handled n rows columns (suc j) q) in
-      cond (is_zero c) next (or_else (kept_under rows j) (kept j (negated_if (below c) r)) against)
+      cond (is_zero c) next (option_map_or against (kept_under rows j) (kept j (negated_if (below c) r)))
 
   -- a handled row is kept, or its n weights are a balance; or it is refused
   abbrev pub added : ℕ → State Num → Handled Num → Option (State Num)
@@ -89,7 +84,7 @@ module _ (K : Kind) where
   unfoldable pub eliminated : ℕ → ℕ → State Num → ℕ → List (List Num) → Result (List (List Num)) ℕ
   eliminated n m s b [] = Ok s.balances
   eliminated n m s b (r ∷ rs) =
-      let go = or_else (added n s (handled n s.rows m 0 r)) (Err b) (λ more. eliminated n m more (suc b) rs) in
+      let go = option_map_or (λ more. eliminated n m more (suc b) rs) (added n s (handled n s.rows m 0 r)) (Err b) in
       cond (any_past r) (Err b) go
 
   -- n weights: 1 at place b, 0 elsewhere

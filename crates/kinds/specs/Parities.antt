@@ -2,6 +2,7 @@
 use Rattle.std.specs.Prelude.{◌≡◌, ℕ, zero, suc, ◌+◌, ◌-◌, ◌*◌, ◌/◌, ◌%◌, ◌<◌, Bool, true, false, cond, not, ◌&&◌, T, ℤ, pos, negsuc, ◌+ℤ◌, ◌*ℤ◌, ◌==◌, nat_eq, nat_lt, unsigned_abs, refl}
 use Rattle.std.proofs.Common.{sym, ap, ◌∙◌, true≢false, arith, ltb→lt, lt→ltb}
 use Rattle.std.proofs.Math.Nat.{div-add-mod}
+use Rattle.std.proofs.Math.Bool.{and_comm, and_assoc}
 use Rattle.std.proofs.lemmas.Int.{unsigned_abs-mul}
 use Rattle.kinds.specs.Kinds.{Lawful, parities, differ}
 
@@ -24,16 +25,6 @@ plus_none false = refl
 pub plus_self : (a : Bool) → differ a a ≡ false
 plus_self true = refl
 plus_self false = refl
-
-pub and_comm : (a b : Bool) → (a && b) ≡ (b && a)
-and_comm true true = refl
-and_comm true false = refl
-and_comm false true = refl
-and_comm false false = refl
-
-pub and_assoc : (a b c : Bool) → (a && b && c) ≡ (a && (b && c))
-and_assoc true b c = refl
-and_assoc false b c = refl
 
 pub and_plus : (a b c : Bool) → (a && differ b c) ≡ differ (a && b) (a && c)
 and_plus true b c = refl

@@ -1,12 +1,13 @@
 -- Whole numbers keep the laws.
 use Rattle.std.specs.Prelude.{◌≡◌, ℕ, zero, suc, ◌+◌, ◌*◌, ◌/◌, ◌<◌, Bool, true, ◌≢◌, ℤ, pos, negsuc, ◌+ℤ◌, ◌*ℤ◌, neg_ℤ, ◌==◌, int_div, nat_lt, unsigned_abs, refl}
-use Rattle.std.proofs.Common.{sym, ap, ◌∙◌, mul-one, mul-zero, mul-pos, arith, eqb→eq}
-use Rattle.std.proofs.Math.Nat.{zero-div}
+use Rattle.std.proofs.Common.{sym, ap, subst, ◌∙◌, mul-one, mul-zero, mul-pos, arith, eqb→eq}
+use Rattle.std.specs.Int.{◌∣◌}
+use Rattle.std.proofs.Math.Nat.{zero-div, mul-div_cancel', dvd-mul_right}
 use Rattle.std.proofs.Math.IntN.{+ℤ_comm, +ℤ_assoc, +ℤ_idr, +ℤ_invr, *ℤ_comm}
 use Rattle.std.proofs.lemmas.Int.{unsigned_abs-mul}
 use borrow.Author.Differences.{up, down, same_in, sum_is_lem, product_is}
 use Rattle.kinds.specs.Kinds.{Lawful, wholes, gcd}
-use Rattle.kinds.specs.Euclid.{Divisor, gcd_left, gcd_right, exact_ℕ}
+use Rattle.kinds.specs.Euclid.{gcd_is}
 
 up_product : (a b : ℤ) → up (a *ℤ b) ≡ up a * up b + down a * down b
 up_product a b = (product_is a b).0
@@ -63,9 +64,9 @@ neg_by_neg k zero = ap (λ x. neg_ℤ (pos x)) (mul-zero (suc k)) ∙ sym (ap po
 neg_by_neg k (suc n) = refl
 
 -- a divisor of the size divides
-divides : (g : ℕ) (x : ℤ) → Divisor g (unsigned_abs x) → (q : ℤ) × (pos g *ℤ q ≡ x)
-divides g (pos n) (q, e) = (pos q, ap pos e)
-divides g (negsuc n) (q, e) = (neg_ℤ (pos q), pos_by_neg g q ∙ ap (λ x. neg_ℤ (pos x)) e)
+divides : (g : ℕ) (x : ℤ) → g ∣ unsigned_abs x → (q : ℤ) × (pos g *ℤ q ≡ x)
+divides g (pos n) d = (pos (n / g), ap pos (mul-div_cancel' g d))
+divides g (negsuc n) d = (neg_ℤ (pos (suc n / g)), pos_by_neg g (suc n / g) ∙ ap (λ x. neg_ℤ (pos x)) (mul-div_cancel' g d))
 
 exact_by : (x d : ℤ) → unsigned_abs d * (unsigned_abs x / unsigned_abs d) ≡ unsigned_abs x → d *ℤ int_div x d ≡ x
 exact_by (pos n) (pos k) e = ap pos e
@@ -77,13 +78,15 @@ abbrev pub divisor : ℤ → ℤ → ℤ
 divisor x y = pos (gcd (unsigned_abs x) (unsigned_abs y))
 
 pub divides_left : (x y : ℤ) → (q : ℤ) × (divisor x y *ℤ q ≡ x)
-divides_left x y = divides (gcd (unsigned_abs x) (unsigned_abs y)) x (gcd_left (unsigned_abs x) (unsigned_abs y))
+divides_left x y = divides (gcd (unsigned_abs x) (unsigned_abs y)) x (gcd_is (unsigned_abs x) (unsigned_abs y)).0
 
 pub divides_right : (x y : ℤ) → (q : ℤ) × (divisor x y *ℤ q ≡ y)
-divides_right x y = divides (gcd (unsigned_abs x) (unsigned_abs y)) y (gcd_right (unsigned_abs x) (unsigned_abs y))
+divides_right x y = divides (gcd (unsigned_abs x) (unsigned_abs y)) y (gcd_is (unsigned_abs x) (unsigned_abs y)).1
 
 pub exact : (x d : ℤ) → (q : ℤ) × (d *ℤ q ≡ x) → d *ℤ int_div x d ≡ x
-exact x d (q, e) = exact_by x d (exact_ℕ (unsigned_abs d) (unsigned_abs q) (unsigned_abs x) (sym (unsigned_abs-mul d q) ∙ ap unsigned_abs e))
+exact x d (q, e) =
+    let m : unsigned_abs d * unsigned_abs q ≡ unsigned_abs x = sym (unsigned_abs-mul d q) ∙ ap unsigned_abs e in
+    exact_by x d (mul-div_cancel' (unsigned_abs d) (subst (λ n. unsigned_abs d ∣ n) m (dvd-mul_right (unsigned_abs d) (unsigned_abs q))))
 
 pub zero_quotient : (d : ℤ) → int_div (pos 0) d ≡ pos 0
 zero_quotient (pos k) = ap pos (zero-div k)

@@ -34,14 +34,22 @@ fn within_limit(n: i64) -> Option<Whole>
     }
 }
 
-// a x less c y.
-fn difference(a: i32, x: i32, c: i32, y: i32) -> i64
-    requires first { (unsigned_abs a ≤ 1000000) × (unsigned_abs x ≤ 1000000) }
-    requires second { (unsigned_abs c ≤ 1000000) × (unsigned_abs y ≤ 1000000) }
-    ensures value { result ≡ a *ℤ x -ℤ c *ℤ y }
+// The product of two numbers within the limit.
+fn product(a: i32, x: i32) -> i64
+    requires { (unsigned_abs a ≤ 1000000) × (unsigned_abs x ≤ 1000000) }
+    ensures value { result ≡ a *ℤ x }
+    ensures small { unsigned_abs result ≤ 1000000000000 }
+{
+    i64::from(a) * i64::from(x)
+}
+
+// The difference of two such products.
+fn difference(p: i64, q: i64) -> i64
+    requires { (unsigned_abs p ≤ 1000000000000) × (unsigned_abs q ≤ 1000000000000) }
+    ensures value { result ≡ p -ℤ q }
     ensures small { unsigned_abs result ≤ 2000000000000 }
 {
-    i64::from(a) * i64::from(x) - i64::from(c) * i64::from(y)
+    p - q
 }
 
 impl Number for Whole {
@@ -96,7 +104,7 @@ impl Number for Whole {
 
     fn combined(a: Whole, x: Whole, c: Whole, y: Whole) -> Combination {
         Combination {
-            n: difference(a.n, x.n, c.n, y.n),
+            n: difference(product(a.n, x.n), product(c.n, y.n)),
         }
     }
 

@@ -7,11 +7,6 @@ use Rattle.std.proofs.lemmas.Fmt.{length-decimal-le}
 use Rattle.printing.specs.Printing.{line_of, name_of, row_text, rows_of}
 use Rattle.printing.specs.Pages.{gap}
 
--- the pieces of a text that is pushed piece by piece
-pub five_after : (p q r s t u a b d e f : List ℕ) → p ≡ [] → q ≡ p ++ a → r ≡ q ++ b → s ≡ r ++ d → t ≡ s ++ e → u ≡ t ++ f → u ≡ a ++ (b ++ (d ++ (e ++ f)))
-five_after p q r s t u a b d e f h0 h1 h2 h3 h4 h5 =
-    h5 ∙ ap (λ x. x ++ f) (h4 ∙ ap (λ x. x ++ e) (h3 ∙ ap (λ x. x ++ d) (h2 ∙ ap (λ x. x ++ b) (h1 ∙ ap (λ x. x ++ a) h0)))) ∙ simp append_assoc
-
 pub ten_digits : (n : ℕ) → n < 2 ^ 32 → length (decimal n) ≤ 10
 ten_digits n h = length-decimal-le 10 n (omega arith) (omega arith) (omega arith)
 
@@ -28,15 +23,8 @@ pub line_rest : (ws : List (List ℕ)) → line_of ws ≡ rest_of 0 ws
 line_rest [] = refl
 line_rest (w ∷ ws) = line_after 0 w ws
 
-rest_some : (i : ℕ) (ws : List (List ℕ)) → 0 < length (rest_of i ws)
-rest_some i [] = omega arith
-rest_some i (w ∷ ws) = omega (arith, length-append (gap i) (w ++ rest_of (i + 1) ws), length-append w (rest_of (i + 1) ws), rest_some (i + 1) ws)
-
 -- the page has room for the line after the text; at word i, p is what is on it, and the words are those that are left
 module _ (text line p : List ℕ) (i : ℕ) (room : length text + length line ≤ 9504) (words : List (List ℕ)) (left : p ++ rest_of i words ≡ text ++ line) where
-  pub room_for_end : length p < 9504
-  room_for_end = omega (arith, ap length left, length-append p (rest_of i words), length-append text line, rest_some i words)
-
   module _ {w : List ℕ} {ws : List (List ℕ)} (e : words ≡ w ∷ ws) where
     at_word : p ++ (gap i ++ (w ++ rest_of (i + 1) ws)) ≡ text ++ line
     at_word = ap (λ vs. p ++ rest_of i vs) (sym e) ∙ left

@@ -1,9 +1,11 @@
 -- What it says of a list that it fits, and that a page has room for its text.
-use Rattle.std.proofs.Common.{◌≡◌, ℕ, zero, suc, ◌+◌, ◌*◌, ◌≤◌, false, ◌||◌, List, [], ◌∷◌, ◌++◌, map, length, take, drop, ℤ, pos, negsuc, sym, refl, ap, ◌∙◌, add_comm, mul-suc, arith, take-add}
+use Rattle.std.proofs.Common.{◌≡◌, ℕ, zero, suc, ◌+◌, ◌*◌, ◌≤◌, false, List, [], ◌∷◌, ◌++◌, map, length, take, drop, ℤ, pos, negsuc, sym, ap, ◌∙◌, add_comm, mul-suc, arith, take-add}
 use Rattle.std.specs.List.{list_any, range_with_len, flat_map, AllByRecursion}
 use Rattle.std.specs.Fmt.{signed_decimal}
 use Rattle.std.proofs.lemmas.Bool.{or_parts, ltb-false}
 use Rattle.std.proofs.lemmas.List.{length-append, length-map, length-take}
+use Rattle.std.proofs.lemmas.List.Folds.{list_any-append}
+use Rattle.std.proofs.lemmas.List.FromFn.{length-map-range_with_len}
 use Rattle.std.proofs.ByRecursion.{All-map, All-weaker}
 use Rattle.std.proofs.lemmas.Fmt.{length-decimal-le, length_signed_le}
 use Rattle.printing.specs.Pages.{gap}
@@ -24,19 +26,15 @@ none_of : (xs : List ℤ) → list_any is_large xs ≡ false → Small xs
 none_of [] e = tt
 none_of (x ∷ xs) e = let p = or_parts (is_large x) (list_any is_large xs) e in (p.0, none_of xs p.1)
 
-some_parts : (xs ys : List ℤ) → list_any is_large (xs ++ ys) ≡ false → (list_any is_large xs ≡ false) × (list_any is_large ys ≡ false)
-some_parts [] ys e = (refl, e)
-some_parts (x ∷ xs) ys e =
-    let p = or_parts (is_large x) (list_any is_large (xs ++ ys)) e in
-    let q = some_parts xs ys p.1 in
-    (ap (λ b. b || list_any is_large xs) p.0 ∙ q.0, q.1)
-
 small_rows : (n k : ℕ) (ws : List ℤ) → list_any is_large (take (n * k) ws) ≡ false → AllByRecursion Small (rows_of n k ws)
 small_rows n zero ws e = tt
 small_rows n (suc k) ws e =
     let m = mul-suc n k ∙ add_comm (n * k) n in
-    let p = some_parts (take n ws) (take (n * k) (drop n ws)) (sym (ap (list_any is_large) (ap (λ j. take j ws) m ∙ take-add n (n * k) ws)) ∙ e) in
-    (none_of (take n ws) p.0, small_rows n k (drop n ws) p.1)
+    let row = take n ws in
+    let rest = take (n * k) (drop n ws) in
+    let parts = ap (list_any is_large) (ap (λ j. take j ws) m ∙ take-add n (n * k) ws) ∙ list_any-append is_large row rest in
+    let p = or_parts (list_any is_large row) (list_any is_large rest) (sym parts ∙ e) in
+    (none_of row p.0, small_rows n k (drop n ws) p.1)
 
 pub fits : (belts balances : ℕ) (weights : List ℤ) → list_unfit belts balances weights ≡ false → Fits belts balances weights
 fits n k ws e =
@@ -66,10 +64,6 @@ names_short : (a n : ℕ) → a + n ≤ 32 → AllByRecursion Short (map name_of
 names_short a zero h = tt
 names_short a (suc n) h = (omega (arith, length-decimal-le 2 a (omega arith) (omega arith) (omega arith)), names_short (a + 1) n (omega arith))
 
-names_count : (a n : ℕ) → length (map name_of (range_with_len a n)) ≡ n
-names_count a zero = refl
-names_count a (suc n) = ap suc (names_count (a + 1) n)
-
 weight_short : (z : ℤ) → is_large z ≡ false → Short (signed_decimal z)
 weight_short (pos n) h = let l = ltb-false 1000000 n h in length_signed_le 7 (pos n) (omega arith) (omega arith)
 weight_short (negsuc n) h = let l = ltb-false 1000000 (suc n) h in length_signed_le 7 (negsuc n) (omega arith) (omega arith)
@@ -86,7 +80,7 @@ rows_short n (suc k) ws l h =
 
 module _ (n k : ℕ) (ws : List ℤ) (f : Fits n k ws) where
   pub names_room : length (line_of (map name_of (range_with_len 0 n))) ≤ 288
-  names_room = line_short _ (names_short 0 n (omega (arith, f.few))) (omega (arith, names_count 0 n, f.few))
+  names_room = line_short _ (names_short 0 n (omega (arith, f.few))) (omega (arith, length-map-range_with_len name_of 0 n, f.few))
 
   pub rows_room : length (flat_map row_text (rows_of n k ws)) ≤ 9216
   rows_room = omega (arith, rows_short n k ws f.few f.small, f.lines)

@@ -1,17 +1,16 @@
 // The printed list.
-ghost use Rattle.std.specs.Prelude.{◌≡◌, ◌+◌, ◌*◌, ◌<◌, ◌≤◌, true, false, ◌++◌, map, length, take, IfOk, IfErr};
+ghost use Rattle.std.specs.Prelude.{◌≡◌, ◌<◌, true, false, ◌++◌, map, take, IfOk, IfErr};
 ghost use Rattle.std.specs.List.{list_any, range_with_len, flat_map};
-ghost use Rattle.printing.specs.Pages.{text_on, gap};
+ghost use Rattle.printing.specs.Pages.{text_on, gap, RoomFor};
 ghost use Rattle.printing.specs.Printing.{line_of, name_of, row_text, rows_of, list_text, is_large, list_unfit, print_list};
 ghost use Rattle.printing.specs.Reading.{reading, listed};
 ghost use Rattle.printing.specs.Words.{UnfitList};
 
 use crate::page::Page;
 use sheet::fault::{Fault, Refusal};
+use sheet::limits::MOST_BELTS;
 
-// The most belts and the most balances of a list, and the limit of a weight either way.
-const MOST: usize = 32;
-
+// The limit of a weight either way.
 const LIMIT: u32 = 1_000_000;
 
 fn is_large(weight: i32) -> bool
@@ -31,15 +30,15 @@ fn any_large(weights: &[i32]) -> bool
 fn is_unfit(belts: usize, balances: usize, weights: &[i32]) -> bool
     ensures { result ≡ list_unfit belts balances weights.now }
 {
-    belts > MOST
-        || balances > MOST
+    belts > MOST_BELTS
+        || balances > MOST_BELTS
         || weights.len() < belts * balances
-        || any_large(&weights[0..belts * balances])
+        || any_large(&weights[..belts * balances])
 }
 
 // A blank before word i of a line, unless it is the first.
 fn push_gap(page: &mut Page, i: usize)
-    requires { length (text_on page.old) + length (gap i) ≤ 9504 }
+    requires { RoomFor page.old (gap i) }
     ensures { text_on page.new ≡ text_on page.old ++ gap i }
 {
     if i > 0 {
@@ -50,7 +49,7 @@ fn push_gap(page: &mut Page, i: usize)
 // The name of a belt.
 fn push_name(page: &mut Page, belt: usize)
     requires small { belt < 32 }
-    requires room { length (text_on page.old) + length (name_of belt) ≤ 9504 }
+    requires room { RoomFor page.old (name_of belt) }
     ensures { text_on page.new ≡ text_on page.old ++ name_of belt }
 {
     page.push(b'B');
@@ -59,7 +58,7 @@ fn push_name(page: &mut Page, belt: usize)
 
 // The line of one balance.
 fn push_row(page: &mut Page, row: &[i32])
-    requires { length (text_on page.old) + length (row_text row.now) ≤ 9504 }
+    requires { RoomFor page.old (row_text row.now) }
     ensures { text_on page.new ≡ text_on page.old ++ row_text row.now }
 {
     for (i, weight) in row.iter().enumerate() {
@@ -96,7 +95,7 @@ impl<'a> Listing<'a> {
 
     // The line of the belts' names.
     fn push_names(&self, page: &mut Page)
-        requires { length (text_on page.old) + length (line_of (map name_of (range_with_len 0 self.now.belts))) ≤ 9504 }
+        requires { RoomFor page.old (line_of (map name_of (range_with_len 0 self.now.belts))) }
         ensures { text_on page.new ≡ text_on page.old ++ line_of (map name_of (range_with_len 0 self.now.belts)) }
     {
         for belt in 0..self.belts {
@@ -108,7 +107,7 @@ impl<'a> Listing<'a> {
 
     // A line for each balance.
     fn push_rows(&self, page: &mut Page)
-        requires { length (text_on page.old) + length (flat_map row_text (rows_of self.now.belts self.now.balances self.now.weights.now)) ≤ 9504 }
+        requires { RoomFor page.old (flat_map row_text (rows_of self.now.belts self.now.balances self.now.weights.now)) }
         ensures { text_on page.new ≡ text_on page.old ++ flat_map row_text (rows_of self.now.belts self.now.balances self.now.weights.now) }
     {
         let mut rest = self.weights;

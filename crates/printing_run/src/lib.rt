@@ -3,7 +3,7 @@
 
 #[cfg(test)]
 mod tests {
-    use printing::{print_list, print_refusal};
+    use printing::{MOST_WRITTEN, print_list, print_refusal};
     use sheet::fault::{Fault, Refusal};
 
     // What a printing call answers: 0 and the number of bytes, or the refusal's number and place.
@@ -16,7 +16,7 @@ mod tests {
 
     // The same for a list, in text memory that is long enough for any.
     fn listed(belts: usize, balances: usize, weights: &[i32]) -> (u8, usize) {
-        told(print_list(belts, balances, weights, &mut [0; 9504]))
+        told(print_list(belts, balances, weights, &mut [0; MOST_WRITTEN]))
     }
 
     const THREE: [i32; 3] = [1, 1, -1];

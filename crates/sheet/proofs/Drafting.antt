@@ -1,7 +1,7 @@
 -- One node more in a draft.
-use Rattle.std.proofs.Common.{◌≡◌, ℕ, ◌+◌, ◌<◌, true, List, [], ◌∷◌, ◌++◌, length, get_or, take, set, replicate, count_by, sym, refl, ap, ◌∙◌, subst, ⊎_elim, arith}
+use Rattle.std.proofs.Common.{◌≡◌, ℕ, ◌+◌, ◌<◌, true, List, [], ◌∷◌, ◌++◌, get_or, take, set, replicate, count_by, sym, refl, ap, ◌∙◌, subst, ⊎_elim, arith}
 use Rattle.std.proofs.lemmas.Bool.{cases_lt}
-use Rattle.std.proofs.lemmas.List.{take_more_set, length-take-le, get_or_past, length_push, get_or-replicate}
+use Rattle.std.proofs.lemmas.List.{take_more_set, get_or_past, get_or-replicate}
 use Rattle.sheet.specs.Words.{Node}
 use Rattle.sheet.specs.Parts.{is_part}
 use Rattle.sheet.specs.declared.parts.Part.{Part}
@@ -10,7 +10,6 @@ use Rattle.sheet.specs.declared.sheet.tally.Parts.{Parts}
 use Rattle.sheet.specs.declared.sheet.draft.Draft.{Draft}
 use Rattle.sheet.specs.Nodes.{is_belt, is_free}
 use Rattle.sheet.specs.Rules.{sizes_fit, order_fits, Ordered}
-use Rattle.sheet.specs.Loading.{size_fits}
 use Rattle.sheet.specs.Wires.{bit}
 use Rattle.sheet.specs.Drafts.{counted, no_parts, Tallied}
 use Rattle.sheet.proofs.Counting.{count_push}
@@ -39,9 +38,6 @@ module _ (d : Draft) where
   abbrev pub before : List Node
   before = take d.len d.nodes
 
-  pub length_before : length before ≡ d.len
-  length_before = length-take-le d.len d.nodes (omega (arith, d.whole, d.few))
-
   -- a node more, whose tests gave the counts b and f more of belts and of free wires
   module _ (n : Node) (b f : ℕ) (eb : b ≡ bit (is_belt n)) (ef : f ≡ bit (is_free n)) where
     belts_more : d.belts + b ≡ count_by is_belt (before ++ n ∷ [])
@@ -49,9 +45,6 @@ module _ (d : Draft) where
 
     free_more : d.free + f ≡ count_by is_free (before ++ n ∷ [])
     free_more = rw (d.tallied, ef) (sym (count_push is_free before n))
-
-    sizes : size_fits (before ++ n ∷ []) ≡ sizes_fit (d.len + 1) (d.belts + b) (d.free + f)
-    sizes = rw (length_push before n, length_before, ← belts_more, ← free_more)
 
     module _ (s : sizes_fit (d.len + 1) (d.belts + b) (d.free + f) ≡ true) (o : order_fits before n ≡ true) where
       pub fits : Sizes (d.len + 1) (d.belts + b) (d.free + f)

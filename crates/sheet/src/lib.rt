@@ -2,6 +2,7 @@
 
 pub mod class;
 pub mod fault;
+pub mod limits;
 mod load;
 pub mod node;
 pub mod parts;

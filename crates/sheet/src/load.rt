@@ -1,4 +1,4 @@
-ghost use Rattle.std.specs.Prelude.{◌≡◌, true, false, [], Ok, Err, MatchResult};
+ghost use Rattle.std.specs.Prelude.{◌≡◌, true, [], Ok, Err, MatchResult};
 ghost use Rattle.sheet.specs.Loading.{value_lines, text_fits, loaded};
 ghost use Rattle.sheet.specs.Promises.{Accepted, Refused};
 ghost use Rattle.sheet.specs.Refusals.{fault};
@@ -7,13 +7,12 @@ ghost use Rattle.sheet.specs.Views.{nodes_in, so_far};
 ghost use Rattle.sheet.specs.declared.fault.Refusal.TheVariants.{UnfitText};
 
 use crate::fault::{Fault, Refusal};
-use crate::reader::{read_line, read_names};
+use crate::limits::MOST_BYTES;
+use crate::reader::{read_names, read_node};
 use crate::sheet::Sheet;
 use crate::sheet::draft::Draft;
 use crate::split::split_once;
 use crate::text::Order;
-
-const MOST_BYTES: usize = 8192;
 
 // A text is not empty, not too long, and ends with a line feed.
 fn is_fit(text: &[u8]) -> bool
@@ -29,7 +28,7 @@ fn read_values(order: Order, values: &[u8]) -> Result<Draft, Fault>
     let mut draft = Draft::new();
     let mut rest = values;
     while let Some((line, after)) = split_once(rest, b'\n') {
-        let node = read_line(order, line, draft.next_line())?;
+        let node = read_node(order, line, draft.next_line())?;
         draft.push(node)?;
         rest = after;
     }

@@ -1,5 +1,5 @@
 ghost use Rattle.std.specs.Prelude.{◌≡◌};
-ghost use Rattle.sheet.specs.Nodes.{is_belt, is_free, is_of};
+ghost use Rattle.sheet.specs.Nodes.{is_belt, is_free, is_of, offer_and_take};
 
 use crate::class::Class;
 
@@ -45,6 +45,16 @@ impl Node {
         ensures { result ≡ is_free self }
     {
         matches!(self, Node::Free(_))
+    }
+
+    // The offer wire and the take wire of a belt's line.
+    pub fn offer_and_take(self) -> Option<(u16, u16)>
+        ensures { result ≡ offer_and_take self }
+    {
+        match self {
+            Node::Belt { offer, take } => Some((offer, take)),
+            _ => None,
+        }
     }
 
     // Whether the line is of a class.

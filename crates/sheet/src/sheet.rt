@@ -2,6 +2,7 @@ ghost use Rattle.std.specs.Prelude.{◌≡◌, ◌≤◌, length, take, count_by
 ghost use Rattle.sheet.specs.Nodes.{is_belt, is_free};
 ghost use Rattle.sheet.specs.Rules.{Ordered, Named, Complete};
 
+use crate::limits::MOST_LINES;
 use crate::node::Node;
 
 mod access;
@@ -11,7 +12,7 @@ pub(crate) mod tally;
 // A sheet (a netlist): the first `len` of `nodes`. They keep every rule, from the moment that it exists.
 #[derive(Clone, Copy)]
 pub struct Sheet {
-    nodes: [Node; 640],
+    nodes: [Node; MOST_LINES],
     len: usize,
     ghost whole: { length nodes ≡ 640 },
     ghost few: { len ≤ 640 },

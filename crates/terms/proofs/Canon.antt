@@ -65,7 +65,7 @@ canonical p q v w = (
 
 -- ---- the test
 
-no_difference : (x y : ℤ) → eqb (nat_abs (x -ℤ y)) 0 ≡ true → x ≡ y
+pub no_difference : (x y : ℤ) → eqb (nat_abs (x -ℤ y)) 0 ≡ true → x ≡ y
 no_difference x y e = sym (-ℤ-+ℤ_cancel x y) ∙ ap (λ (d : ℤ). d +ℤ y) (null_true (x -ℤ y) e) ∙ +ℤ_idl y
 
 found : (p q : Form) → same p q ≡ true → p ≡ q

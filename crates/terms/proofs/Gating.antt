@@ -1,8 +1,9 @@
 -- The forms of gates come to what the gates give, and rise.
-use Rattle.std.proofs.Common.{◌≡◌, ℕ, Bool, true, false, not, ◌&&◌, ◌||◌, [], ℤ, pos, negsuc, ◌+ℤ◌, ◌*ℤ◌, refl, ap, ◌∙◌, ap₂}
+use Rattle.std.proofs.Common.{◌≡◌, ℕ, Bool, true, false, not, ◌&&◌, ◌||◌, List, [], ℤ, pos, negsuc, ◌+ℤ◌, ◌*ℤ◌, sym, refl, ap, ◌∙◌, subst, ap₂}
+use Rattle.terms.specs.declared.term.Term.{Term}
 use Rattle.terms.specs.Forms.{Form, bit, value, add_all, add_product, scaled, one_form, not_form, and_form, or_form, xor_form}
 use Rattle.terms.specs.Laws.{differ}
-use Rattle.terms.specs.Records.{Gated}
+use Rattle.terms.specs.Records.{form_in, Held, Gated, Formed}
 use Rattle.terms.proofs.Rises.{add_all_rising, add_product_rising, one_rising}
 use Rattle.terms.proofs.Values.{share, empty_high, add_all_value, add_scaled_value, add_product_value}
 
@@ -63,3 +64,9 @@ xor_gated p q = record {
   counts = λ r a b e f. joint (negsuc 1) p q r a b e f ∙ xor_bit a b;
   rises = λ v w. add_product_rising (negsuc 1) (add_all p q) p q (add_all_rising p q v);
 }
+
+-- the form of a gate, held in the first records
+pub formed : (room : ℕ) (form : Form → Form → Form) (gate : Bool → Bool → Bool) (one other before after : List Term) (n : ℕ)
+    → Held room (form (form_in one) (form_in other)) before after n → Gated gate (form_in one) (form_in other) (form (form_in one) (form_in other))
+    → Formed room form gate one other before after n
+formed room form gate one other before after n h g = (h, subst (Gated gate (form_in one) (form_in other)) (sym h.form) g)

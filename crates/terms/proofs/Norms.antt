@@ -5,7 +5,8 @@ use Rattle.std.proofs.lemmas.Bool.{cond_both}
 use Rattle.terms.specs.declared.term.Term.{Term}
 use Rattle.terms.specs.Forms.{Form, norm, keep, insert, add_all, scaled, add_product}
 use Rattle.terms.specs.Records.{form_in}
-use Rattle.terms.proofs.Wide.{nat_abs_sum, nat_abs_mul}
+use Rattle.std.proofs.lemmas.Int.{unsigned_abs-mul}
+use Rattle.terms.proofs.Wide.{nat_abs_sum}
 
 keep_norm : (s : ℕ) (c : ℤ) (p : Form) → norm (keep s c p) ≤ nat_abs c + norm p
 keep_norm s c p = cond_both (eqb (nat_abs c) 0) p ((s, c) ∷ p) (λ (x : Form). norm x ≤ nat_abs c + norm p) (λ _. omega arith) (λ _. omega arith)
@@ -26,7 +27,7 @@ insert_norm s c (t ∷ p) = go (insert_norm s c p)
 pub scaled_norm : (s : ℕ) (k : ℤ) (q : Form) → norm (scaled s k q) ≡ nat_abs k * norm q
 scaled_norm s k [] = sym (mul-zero (nat_abs k))
 scaled_norm s k (t ∷ q) =
-    ap₂ (λ (x y : ℕ). x + y) (nat_abs_mul k t.1) (scaled_norm s k q) ∙ sym (mul-add (nat_abs k) (nat_abs t.1) (norm q))
+    ap₂ (λ (x y : ℕ). x + y) (unsigned_abs-mul k t.1) (scaled_norm s k q) ∙ sym (mul-add (nat_abs k) (nat_abs t.1) (norm q))
 
 pub add_all_norm : (p q : Form) → norm (add_all p q) ≤ norm p + norm q
 add_all_norm p [] = omega arith
@@ -43,7 +44,7 @@ add_product_norm k p (t ∷ a) b =
       arith,
       add_product_norm k (add_all p (scaled t.0 (k *ℤ t.1) b)) a b,
       add_all_norm p (scaled t.0 (k *ℤ t.1) b),
-      scaled_norm t.0 (k *ℤ t.1) b ∙ ap (λ (x : ℕ). x * norm b) (nat_abs_mul k t.1),
+      scaled_norm t.0 (k *ℤ t.1) b ∙ ap (λ (x : ℕ). x * norm b) (unsigned_abs-mul k t.1),
       share_out (nat_abs k) (nat_abs t.1) (norm a) (norm b),
     )
 

@@ -1,4 +1,4 @@
-ghost use Rattle.std.specs.Prelude.{◌≡◌, ◌+◌, ◌≤◌, true, not, ◌&&◌, ◌||◌, length, unsigned_abs};
+ghost use Rattle.std.specs.Prelude.{◌≡◌, ◌+◌, ◌≤◌, true, not, ◌&&◌, ◌||◌, length, negsuc, unsigned_abs};
 ghost use Rattle.terms.specs.Forms.{add_all, add_product, not_form, and_form, or_form, xor_form};
 ghost use Rattle.terms.specs.Laws.{differ};
 ghost use Rattle.terms.specs.Records.{form_in, gate_fits, product_room, sum_room, Held, Formed, WorkedOut};
@@ -33,20 +33,14 @@ pub fn and_form(one: &[Term], other: &[Term], work: &mut [Term]) -> Option<usize
 pub fn or_form(one: &[Term], other: &[Term], work: &mut [Term]) -> Option<usize>
     ensures { WorkedOut (sum_room one.now other.now) or_form (λ a b. a || b) one.now other.now work.old work.new result }
 {
-    if !or_fits(work, one, other) {
-        return None;
-    }
-    Some(disjunction(one, other, work))
+    sum_less(-1, one, other, work)
 }
 
 // Works XOR of two forms out in the first records of `work`, and answers how many terms it has.
 pub fn xor_form(one: &[Term], other: &[Term], work: &mut [Term]) -> Option<usize>
     ensures { WorkedOut (sum_room one.now other.now) xor_form differ one.now other.now work.old work.new result }
 {
-    if !or_fits(work, one, other) {
-        return None;
-    }
-    Some(exclusion(one, other, work))
+    sum_less(-2, one, other, work)
 }
 
 fn negation(form: &[Term], work: &mut [Term]) -> usize
@@ -77,18 +71,16 @@ fn conjunction(one: &[Term], other: &[Term], work: &mut [Term]) -> usize
     product.put_into(work, 0)
 }
 
-fn disjunction(one: &[Term], other: &[Term], work: &mut [Term]) -> usize
-    requires { gate_fits (sum_room one.now other.now) work.old one.now other.now ≡ true }
-    ensures { Formed (sum_room one.now other.now) or_form (λ a b. a || b) one.now other.now work.old work.new result }
+// Works the sum of two forms and `factor` times their product out: OR is the sum less the product, XOR the sum less twice the product.
+fn sum_less(factor: i64, one: &[Term], other: &[Term], work: &mut [Term]) -> Option<usize>
+    requires { unsigned_abs factor ≤ 2 }
+    ensures or { factor ≡ negsuc 0 → WorkedOut (sum_room one.now other.now) or_form (λ a b. a || b) one.now other.now work.old work.new result }
+    ensures xor { factor ≡ negsuc 1 → WorkedOut (sum_room one.now other.now) xor_form differ one.now other.now work.old work.new result }
 {
-    sum_and_product(-1, one, other, work)
-}
-
-fn exclusion(one: &[Term], other: &[Term], work: &mut [Term]) -> usize
-    requires { gate_fits (sum_room one.now other.now) work.old one.now other.now ≡ true }
-    ensures { Formed (sum_room one.now other.now) xor_form differ one.now other.now work.old work.new result }
-{
-    sum_and_product(-2, one, other, work)
+    if !or_fits(work, one, other) {
+        return None;
+    }
+    Some(sum_and_product(factor, one, other, work))
 }
 
 // The sum of two forms and `factor` times their product.

@@ -13,7 +13,7 @@ fn place(work: &[Term], used: usize, set: &Set) -> usize
     requires { used ≤ length work.now }
     ensures { Placed (number_of set.now) used work.now result }
 {
-    work[0..used]
+    work[..used]
         .iter()
         .position(|t| !before(&t.set, set))
         .unwrap_or(used)

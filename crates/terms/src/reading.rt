@@ -35,15 +35,6 @@ pub fn same(one: &[Term], other: &[Term]) -> bool
     ensures equal { Decides result (form_in one.now ≡ form_in other.now) }
     ensures alike { Rising 0 (form_in one.now) → Rising 0 (form_in other.now) → Decides result (Alike (form_in one.now) (form_in other.now)) }
 {
-    compared(one, other)
-}
-
-// The comparison, with what its answer means.
-fn compared(one: &[Term], other: &[Term]) -> bool
-    ensures exact { result ≡ same (form_in one.now) (form_in other.now) }
-    ensures equal { Decides result (form_in one.now ≡ form_in other.now) }
-    ensures alike { Rising 0 (form_in one.now) → Rising 0 (form_in other.now) → Decides result (Alike (form_in one.now) (form_in other.now)) }
-{
     matching(one, other)
 }
 
@@ -54,11 +45,11 @@ fn matching(one: &[Term], other: &[Term]) -> bool
     if one.len() != other.len() {
         return false;
     }
-    one.iter().zip(other).all(|(t, u)| same_term(t, u))
+    one.iter().zip(other).all(|(t, u)| same_term(*t, *u))
 }
 
-fn same_term(one: &Term, other: &Term) -> bool
-    ensures { result ≡ (number_of one.now.set == number_of other.now.set && unsigned_abs (one.now.coefficient -ℤ other.now.coefficient) == 0) }
+fn same_term(one: Term, other: Term) -> bool
+    ensures { result ≡ (number_of one.set == number_of other.set && unsigned_abs (one.coefficient -ℤ other.coefficient) == 0) }
 {
-    number(&one.set) == number(&other.set) && one.coefficient == other.coefficient
+    one == other
 }

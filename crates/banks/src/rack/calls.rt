@@ -4,7 +4,7 @@ ghost use Rattle.banks.specs.Banks.{numbered, racked};
 ghost use Rattle.banks.specs.Racks.{rack_of};
 ghost use Rattle.banks.specs.Sides.{Past};
 ghost use Rattle.std.proofs.Common.{arith};
-ghost use Rattle.banks.specs.Rows.{length_rack, row_each};
+ghost use Rattle.banks.specs.Rows.{length_rack, each_belt};
 ghost use Rattle.std.proofs.Math.ListN;
 
 use super::Rack;
@@ -53,7 +53,7 @@ impl Bank for Rack {
 
     ghost sized = { λ b. let n = length_rack b in (omega arith, omega arith) };
 
-    ghost small = { λ b i. row_each (λ m. (m.places ≤ 65535) × (m.width ≤ 4)) (omega arith, omega arith) (λ r. (omega arith, omega arith)) (ListN.take b.size b.rows) i };
+    ghost small = { λ b i. each_belt row_of (λ m. (m.places ≤ 65535) × (m.width ≤ 4)) (omega arith, omega arith) (λ r. (omega arith, omega arith)) (ListN.take b.size b.rows) i };
 
     fn size(&self) -> usize {
         self.size

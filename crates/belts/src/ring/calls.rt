@@ -55,8 +55,8 @@ impl Store for Ring {
     }
 
     // The word at the exit place.
-    fn oldest(&self) -> u8 {
-        self.cells[usize::from(self.leave)]
+    fn oldest(&self) -> Option<u8> {
+        (self.held() > 0).then_some(self.cells[usize::from(self.leave)])
     }
 
     // Writes at the entry place and goes on to the next.

@@ -39,8 +39,8 @@ impl Store for PackedRow {
     }
 
     // The word in the lowest bits.
-    fn oldest(&self) -> u8 {
-        (self.bits & 0xf) as u8
+    fn oldest(&self) -> Option<u8> {
+        (self.count > 0).then_some((self.bits & 0xf) as u8)
     }
 
     // Writes above all others.

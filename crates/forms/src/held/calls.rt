@@ -8,7 +8,9 @@ use crate::held::Forms;
 use crate::slot::Slot;
 use crate::slot::access::operand;
 use sheet::fault::Fault;
+use sheet::limits::MOST_LINES;
 use sheet::sheet::Sheet;
+use std::fmt::{self, Debug};
 use terms::Term;
 
 impl Forms {
@@ -16,13 +18,11 @@ impl Forms {
     pub fn of(sheet: &Sheet) -> Result<Forms, Fault>
         ensures { MatchResult result (λ f. Allowed (nodes_in sheet.now) (forms_in f)) (Refused (nodes_in sheet.now)) }
     {
-        let mut slots = [Slot::none(); 640];
-        let mut work = [Term::default(); 624];
-        let nodes = sheet.nodes();
-        fill(nodes, &mut slots, &mut work)?;
+        let mut slots = [Slot::none(); MOST_LINES];
+        fill(sheet, &mut slots)?;
         Ok(Forms {
             slots,
-            len: nodes.len(),
+            len: sheet.len(),
         })
     }
 
@@ -33,5 +33,11 @@ impl Forms {
         ensures easy { light result.now ≡ true }
     {
         operand(&self.slots[..self.len], line)
+    }
+}
+
+impl Debug for Forms {
+    fn fmt<W: fmt::Write>(&self, f: &mut fmt::Formatter<W>) -> fmt::Result {
+        f.debug_list().entries(&self.slots[..self.len]).finish()
     }
 }

@@ -4,7 +4,8 @@ ghost use Rattle.terms.specs.Sets.{number_of};
 ghost use Rattle.forms.specs.Gates.{large};
 ghost use Rattle.forms.specs.Slots.{slot_form, slot_forms};
 
-use crate::slot::Slot;
+use crate::slot::{MOST_TERMS, Slot};
+use std::fmt::{self, Debug};
 use terms::Term;
 
 impl Slot {
@@ -13,7 +14,7 @@ impl Slot {
         ensures { slot_form result ≡ [] }
     {
         Slot {
-            terms: [Term::default(); 24],
+            terms: [Term::default(); MOST_TERMS],
             len: 0,
         }
     }
@@ -22,7 +23,7 @@ impl Slot {
     pub(crate) fn wire(set: [u8; 16]) -> Slot
         ensures { slot_form result ≡ (number_of set, pos 1) ∷ [] }
     {
-        let mut terms = [Term::default(); 24];
+        let mut terms = [Term::default(); MOST_TERMS];
         terms[0] = Term {
             set,
             coefficient: 1,
@@ -52,13 +53,19 @@ impl Slot {
     }
 }
 
+impl Debug for Slot {
+    fn fmt<W: fmt::Write>(&self, f: &mut fmt::Formatter<W>) -> fmt::Result {
+        f.debug_list().entries(self.form()).finish()
+    }
+}
+
 // A form's terms, followed by ones without value.
-fn copied(form: &[Term]) -> [Term; 24]
+fn copied(form: &[Term]) -> [Term; MOST_TERMS]
     requires { length form.now ≤ 24 }
     ensures front { take (length form.now) result ≡ form.now }
     ensures whole { length result ≡ 24 }
 {
-    let mut terms = [Term::default(); 24];
+    let mut terms = [Term::default(); MOST_TERMS];
     terms[..form.len()].copy_from_slice(form);
     terms
 }
@@ -69,8 +76,8 @@ pub(crate) fn operand(before: &[Slot], line: u16) -> &[Term]
     ensures few { length result.now ≤ 24 }
     ensures easy { light result.now ≡ true }
 {
-    match before.get(usize::from(line)) {
-        Some(slot) => slot.form(),
-        None => &[],
-    }
+    before
+        .get(usize::from(line))
+        .map(Slot::form)
+        .unwrap_or_default()
 }

@@ -1,9 +1,9 @@
-ghost use Rattle.std.specs.Prelude.{◌≡◌, ◌+◌, ◌<◌, ◌≤◌, [], ◌∷◌, ◌++◌, length, Ok, decimal};
+ghost use Rattle.std.specs.Prelude.{◌≡◌, [], ◌∷◌, ◌++◌, Ok, decimal};
 ghost use Rattle.std.specs.Fmt.{signed_decimal};
-ghost use Rattle.printing.specs.Pages.{text_on};
+ghost use Rattle.printing.specs.Pages.{text_on, RoomFor};
 ghost use Rattle.printing.specs.Printing.{in_text};
 
-use crate::page::Page;
+use crate::page::{MOST_WRITTEN, Page};
 use sheet::fault::{Fault, Refusal};
 
 impl Page {
@@ -12,14 +12,14 @@ impl Page {
         ensures { text_on result ≡ [] }
     {
         Page {
-            bytes: [0; 9504],
+            bytes: [0; MOST_WRITTEN],
             len: 0,
         }
     }
 
     // One byte more.
     pub(crate) fn push(&mut self, byte: u8)
-        requires { length (text_on self.old) < 9504 }
+        requires { RoomFor self.old (byte ∷ []) }
         ensures { text_on self.new ≡ text_on self.old ++ byte ∷ [] }
     {
         let at = self.len;
@@ -29,7 +29,7 @@ impl Page {
 
     // A text.
     pub(crate) fn push_text(&mut self, text: &[u8])
-        requires { length (text_on self.old) + length text.now ≤ 9504 }
+        requires { RoomFor self.old text.now }
         ensures { text_on self.new ≡ text_on self.old ++ text.now }
     {
         let at = self.len;
@@ -40,7 +40,7 @@ impl Page {
 
     // A line feed, which ends every line.
     pub(crate) fn end_line(&mut self)
-        requires { length (text_on self.old) < 9504 }
+        requires { RoomFor self.old (10 ∷ []) }
         ensures { text_on self.new ≡ text_on self.old ++ 10 ∷ [] }
     {
         self.push(b'\n');
@@ -48,7 +48,7 @@ impl Page {
 
     // A number in decimal digits.
     pub(crate) fn push_number(&mut self, n: u32)
-        requires { length (text_on self.old) + length (decimal n) ≤ 9504 }
+        requires { RoomFor self.old (decimal n) }
         ensures { text_on self.new ≡ text_on self.old ++ decimal n }
     {
         if n > 9 {
@@ -59,7 +59,7 @@ impl Page {
 
     // A weight in decimal digits, with a dash before it if it is below zero.
     pub(crate) fn push_weight(&mut self, weight: i32)
-        requires { length (text_on self.old) + length (signed_decimal weight) ≤ 9504 }
+        requires { RoomFor self.old (signed_decimal weight) }
         ensures { text_on self.new ≡ text_on self.old ++ signed_decimal weight }
     {
         if weight < 0 {
@@ -76,7 +76,7 @@ impl Page {
         if text.len() < len {
             return Err(Refusal::ShortText.into());
         }
-        text[0..len].copy_from_slice(&self.bytes[0..len]);
+        text[..len].copy_from_slice(&self.bytes[..len]);
         Ok(len)
     }
 }

@@ -7,6 +7,7 @@ ghost use Rattle.sheet.specs.declared.node.Node.TheVariants as Line;
 ghost use Rattle.sheet.specs.declared.node.Source.TheVariants as Wire;
 
 use crate::class::Class;
+use crate::limits::MOST_LINES;
 use crate::node::{Node, Source};
 use crate::rules::is_wire;
 use crate::sheet::Sheet;
@@ -25,7 +26,7 @@ impl Sheet {
         ensures { nodes_in result ≡ [] }
     {
         Sheet {
-            nodes: [Node::Free(Source::Sensor); 640],
+            nodes: [Node::Free(Source::Sensor); MOST_LINES],
             len: 0,
         }
     }

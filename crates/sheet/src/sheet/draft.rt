@@ -3,6 +3,7 @@ ghost use Rattle.sheet.specs.Nodes.{is_belt, is_free};
 ghost use Rattle.sheet.specs.Rules.{Ordered};
 ghost use Rattle.sheet.specs.Drafts.{Tallied};
 
+use crate::limits::MOST_LINES;
 use crate::node::Node;
 use crate::sheet::tally::Tally;
 
@@ -12,7 +13,7 @@ pub(crate) mod build;
 // parts.
 #[derive(Clone, Copy)]
 pub(crate) struct Draft {
-    nodes: [Node; 640],
+    nodes: [Node; MOST_LINES],
     len: usize,
     belts: usize,
     free: usize,

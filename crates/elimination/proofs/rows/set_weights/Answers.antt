@@ -9,5 +9,5 @@ returns g c =
     let row = c.loop-x.row in
     let i = c.loop-x.x-index in
     let all = ap (map m.value) (sym (take_all i row (omega arith))) ∙ c.loop-x.invariant in
-    weights_set m.kind m.value row c.args.n c.args.b _ c.one.ensures
+    weights_set m.kind m.value row c.args.n c.args.b _ c.requires.inside c.one.ensures
     (sym (take-map m.value c.args.n row) ∙ ap (λ xs. take c.args.n xs) all ∙ take-replicate c.args.n i m.kind.zero (omega arith))

@@ -1,6 +1,6 @@
-use Rattle.std.proofs.Common.{refl}
+use Rattle.std.proofs.Common.{refl, arith}
 use Rattle.forms.proofs.Slots.{one_held}
 use Rattle.forms.proofs.gates.constant.Goals as goal
 
-pub returns-then-high : goal.returns-then-high
-returns-then-high c = rw c.if-high.true (one_held c.args.work.now _ c.requires refl)
+pub returns : goal.returns
+returns c = rw c.if-not-high.false (one_held c.args.work.now _ (omega arith) refl)

@@ -1,10 +1,9 @@
-use Rattle.std.proofs.Common.{◌++◌, map, get_or, pos, sym, refl, ap, ◌∙◌, arith, w32, SFits, rules}
+use Rattle.std.proofs.Common.{◌++◌, map, get_or, pos, sym, refl, ap, arith, w32, SFits, rules}
 use Rattle.std.specs.Fmt.{signed_decimal}
-use Rattle.std.proofs.lemmas.List.{at_drop_all}
 use Rattle.std.proofs.lemmas.Int.{to_z-of_z}
 use Rattle.printing.specs.Pages.{text_on}
 use Rattle.printing.specs.Printing.{row_text}
-use Rattle.printing.proofs.Lines.{rest_of, line_rest, weights_left, room_for_end, room_for_gap, room_for_word, word_after}
+use Rattle.printing.proofs.Lines.{line_rest, weights_left, room_for_gap, room_for_word}
 use Rattle.printing.proofs.list.push_row.Goals as goal
 
 pub loop-i-init : goal.loop-i-init
@@ -23,18 +22,3 @@ push_weight-requires c =
     let row = c.args.row.now in
     let fits : SFits w32 (get_or row l.i (pos 0)) = search rules in
     room_for_word (text_on c.args.page.now) (row_text row) (text_on l.page) l.i c.requires _ l.invariant (weights_left l.i row _ (to_z-of_z w32 (get_or row l.i (pos 0)) fits) (omega arith)) _ c.push_gap.ensures
-
-pub loop-i-preserved : goal.loop-i-preserved
-loop-i-preserved c =
-    let l = c.loop-i in
-    let row = c.args.row.now in
-    let fits : SFits w32 (get_or row l.i (pos 0)) = search rules in
-    word_after (text_on c.args.page.now) (row_text row) (text_on l.page) l.i c.requires _ l.invariant (weights_left l.i row _ (to_z-of_z w32 (get_or row l.i (pos 0)) fits) (omega arith)) _ _ c.push_gap.ensures c.push_weight.ensures
-
-pub end_line-requires : goal.end_line-requires
-end_line-requires c = let l = c.loop-i in room_for_end (text_on c.args.page.now) (row_text c.args.row.now) (text_on l.page) l.i c.requires _ l.invariant
-
-pub returns : goal.returns
-returns c =
-    let l = c.loop-i in
-    c.end_line.ensures ∙ sym (at_drop_all (λ xs. text_on l.page ++ rest_of l.i (map signed_decimal xs)) c.args.row.now l.i (omega arith)) ∙ l.invariant

@@ -1,6 +1,6 @@
 use Rattle.std.proofs.Common.{length, ap, arith}
 use Rattle.std.proofs.lemmas.List.{length-append}
-use Rattle.printing.proofs.Lines.{five_after, ten_digits}
+use Rattle.printing.proofs.Lines.{ten_digits}
 use Rattle.printing.proofs.refusal.refusal_page.Goals as goal
 
 pub push_number-requires : goal.push_number-requires
@@ -18,7 +18,3 @@ push_number-requires-2 c =
 pub end_line-requires : goal.end_line-requires
 end_line-requires c =
     omega (arith, ap length c.new-page.ensures, simp length-append at (ap length c.push_text.ensures), simp length-append at (ap length c.push_number.ensures), simp length-append at (ap length c.push_text-2.ensures), simp length-append at (ap length c.push_number-2.ensures), ten_digits c.args.number (omega arith), ten_digits c.args.place (omega arith))
-
-pub returns : goal.returns
-returns c =
-    five_after _ _ _ _ _ _ _ _ _ _ _ c.new-page.ensures c.push_text.ensures c.push_number.ensures c.push_text-2.ensures c.push_number-2.ensures c.end_line.ensures

@@ -6,6 +6,7 @@ ghost use Rattle.sheet.specs.Views.{nodes_in, so_far};
 ghost use Rattle.sheet.specs.declared.fault.Refusal.TheVariants.{UnfitBelt};
 
 use crate::fault::{Fault, Refusal};
+use crate::limits::MOST_LINES;
 use crate::node::{Node, Source};
 use crate::rules::{Lines, order_fits, sizes_fit};
 use crate::sheet::Sheet;
@@ -17,7 +18,7 @@ impl Draft {
         ensures { so_far result ≡ [] }
     {
         Draft {
-            nodes: [Node::Free(Source::Sensor); 640],
+            nodes: [Node::Free(Source::Sensor); MOST_LINES],
             len: 0,
             belts: 0,
             free: 0,
@@ -40,10 +41,10 @@ impl Draft {
         let belts = self.belts + usize::from(node.is_belt());
         let free = self.free + usize::from(node.is_free());
         if !sizes_fit(at + 1, belts, free) {
-            return Err(Refusal::TooMany.at(at as u16));
+            return Err(Refusal::TooMany.at(self.next_line()));
         }
         if !order_fits(&self.nodes[..at], node) {
-            return Err(Refusal::GateOutOfOrder.at(at as u16));
+            return Err(Refusal::GateOutOfOrder.at(self.next_line()));
         }
         self.nodes[at] = node;
         self.len = at + 1;
@@ -57,16 +58,12 @@ impl Draft {
     fn check_belts(&self) -> Result<(), Fault>
         ensures { MatchResult result (λ _. unfit (so_far self.now) ≡ None) (λ e. (p : ℕ) × (unfit (so_far self.now) ≡ Some p) × (e ≡ fault UnfitBelt p)) }
     {
-        let mut belt: usize = 0;
-        for (i, node) in self.nodes[..self.len].iter().enumerate() {
-            if node.is_belt() {
-                if !self.parts.of(belt).fit() {
-                    return Err(Refusal::UnfitBelt.at(i as u16));
-                }
-                belt += 1;
-            }
+        let lines = self.nodes[..self.len].iter().enumerate();
+        let mut belts = lines.filter(|(_, node)| node.is_belt()).enumerate();
+        match belts.find(|(belt, _)| !self.parts.of(*belt).fit()) {
+            Some((_, (i, _))) => Err(Refusal::UnfitBelt.at(i as u16)),
+            None => Ok(()),
         }
-        Ok(())
     }
 
     // The sheet of all nodes, which keep the rules over the whole.

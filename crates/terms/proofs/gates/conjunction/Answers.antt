@@ -1,7 +1,7 @@
-use Rattle.std.proofs.Common.{◌+◌, ◌*◌, ◌&&◌, length, sym, refl, subst, arith}
+use Rattle.std.proofs.Common.{◌+◌, ◌*◌, ◌&&◌, length, refl, arith}
 use Rattle.terms.specs.Forms.{and_form}
-use Rattle.terms.specs.Records.{form_in, Held, Gated}
-use Rattle.terms.proofs.Gating.{and_gated}
+use Rattle.terms.specs.Records.{form_in, Held}
+use Rattle.terms.proofs.Gating.{formed, and_gated}
 use Rattle.terms.proofs.Recorded.{onward}
 use Rattle.terms.proofs.gates.conjunction.Goals as goal
 
@@ -13,4 +13,4 @@ returns c =
     let n = length c.args.one.now * length c.args.other.now in
     let held : Held n (and_form P Q) W c.put_into.new.work c.put_into.result
     = onward (0 + n) n c.put_into.result (and_form P Q) (and_form P Q) W c.put_into.new.work W c.put_into.ensures refl (omega arith) refl in
-    (held, subst (Gated (λ a b. a && b) P Q) (sym held.form) (and_gated P Q))
+    formed n and_form (λ a b. a && b) c.args.one.now c.args.other.now _ _ _ held (and_gated P Q)

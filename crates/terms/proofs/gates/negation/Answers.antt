@@ -1,10 +1,10 @@
-use Rattle.std.proofs.Common.{◌+◌, not, List, length, set, replicate, pos, negsuc, sym, ap, subst, arith}
+use Rattle.std.proofs.Common.{◌+◌, not, List, length, set, replicate, pos, negsuc, ap, arith}
 use Rattle.std.proofs.lemmas.List.{drop-set-lt}
 use Rattle.terms.specs.declared.term.Term.{Term}
 use Rattle.terms.specs.Forms.{norm, add_all, scaled, not_form}
-use Rattle.terms.specs.Records.{form_in, Held, Gated}
+use Rattle.terms.specs.Records.{form_in, Held}
 use Rattle.terms.proofs.Fitting.{gate_parts, first_put}
-use Rattle.terms.proofs.Gating.{not_gated}
+use Rattle.terms.proofs.Gating.{formed, not_gated}
 use Rattle.terms.proofs.Recorded.{onward}
 use Rattle.terms.proofs.gates.negation.Goals as goal
 
@@ -27,4 +27,4 @@ returns c =
     let held : Held (n + 1) (not_form F) W c.put_into.new.work c.put_into.result
     = onward (1 + n) (n + 1) c.put_into.result _ (not_form F) (set W 0 one) c.put_into.new.work W c.put_into.ensures e (omega arith)
     (drop-set-lt (n + 1) W 0 one (omega arith)) in
-    (held, subst (Gated (λ a b. not a) F F) (sym held.form) (not_gated F))
+    formed (n + 1) (λ p q. not_form p) (λ a b. not a) c.args.form.now c.args.form.now _ _ _ held (not_gated F)

@@ -9,7 +9,8 @@ use Rattle.terms.proofs.Inserts.{opened_form, kept_form, closed_form, summed_for
 use Rattle.terms.proofs.Norms.{norm_at}
 use Rattle.terms.proofs.Over.{opened_rest, closed_rest}
 use Rattle.terms.proofs.Recorded.{unread, holding}
-use Rattle.terms.proofs.Wide.{fits_from, back, nat_abs_sum, null_of, whole_of}
+use Rattle.std.proofs.lemmas.Int.{fits_signed_from_abs}
+use Rattle.terms.proofs.Wide.{back, nat_abs_sum, null_of, whole_of}
 use Rattle.terms.proofs.merging.put_term.Goals as goal
 use Rattle.terms.proofs.merging.put_term.Goals.{else-i-used-via-then-i-used+else-not-before, else-i-used-via-else-i-used}
 
@@ -38,7 +39,7 @@ overflow_add-sum c =
     let a = c.args.t.coefficient in
     let d = (get_or c.args.work.now c.place-i.result unread).coefficient in
     let b = both_fit a c.args.work.now c.args.used c.place-i.result c.requires.room c.if-i-used.true c.requires.fits in
-    subst (SFits w64) (sym (coded a d b)) (fits_from (a +ℤ d) (sum_fits a d b))
+    subst (SFits w64) (sym (coded a d b)) (fits_signed_from_abs w64 (a +ℤ d) (sum_fits a d b))
 
 pub returns-then-sum-eq0 : goal.returns-then-sum-eq0
 returns-then-sum-eq0 c =

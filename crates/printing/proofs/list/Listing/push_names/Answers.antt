@@ -2,8 +2,7 @@ use Rattle.std.proofs.Common.{◌++◌, map, ap, arith}
 use Rattle.std.specs.List.{range_with_len}
 use Rattle.printing.specs.Pages.{text_on}
 use Rattle.printing.specs.Printing.{line_of, name_of}
-use Rattle.printing.proofs.Lines.{names_left, names_whole, room_for_end, room_for_gap, room_for_word, word_after}
-use Rattle.printing.proofs.Sizes.{fits}
+use Rattle.printing.proofs.Lines.{names_left, names_whole, room_for_gap, room_for_word, word_after}
 use Rattle.printing.proofs.list.Listing.push_names.Goals as goal
 
 pub loop-belt-init : goal.loop-belt-init
@@ -15,23 +14,14 @@ push_gap-requires c =
     let line = line_of (map name_of (range_with_len 0 c.args.self.now.belts)) in
     room_for_gap (text_on c.args.page.now) line (text_on l.page) l.belt c.requires _ l.invariant (names_left l.belt c.args.self.now.belts (omega arith))
 
-pub push_name-requires : goal.push_name-requires
-push_name-requires c =
-    let s = c.args.self.now in
+pub push_name-requires-clause-room : goal.push_name-requires-clause-room
+push_name-requires-clause-room c =
     let l = c.loop-belt in
     let line = line_of (map name_of (range_with_len 0 c.args.self.now.belts)) in
-    record {
-      small = omega (arith, (fits s.belts s.balances s.weights.now s.fit).few);
-      room = room_for_word (text_on c.args.page.now) line (text_on l.page) l.belt c.requires _ l.invariant (names_left l.belt c.args.self.now.belts (omega arith)) _ c.push_gap.ensures;
-    }
+    room_for_word (text_on c.args.page.now) line (text_on l.page) l.belt c.requires _ l.invariant (names_left l.belt c.args.self.now.belts (omega arith)) _ c.push_gap.ensures
 
 pub loop-belt-preserved : goal.loop-belt-preserved
 loop-belt-preserved c =
     let l = c.loop-belt in
     let line = line_of (map name_of (range_with_len 0 c.args.self.now.belts)) in
     word_after (text_on c.args.page.now) line (text_on l.page) l.belt c.requires _ l.invariant (names_left l.belt c.args.self.now.belts (omega arith)) _ _ c.push_gap.ensures c.push_name.ensures
-
-pub end_line-requires : goal.end_line-requires
-end_line-requires c =
-    let l = c.loop-belt in
-    room_for_end (text_on c.args.page.now) (line_of (map name_of (range_with_len 0 c.args.self.now.belts))) (text_on l.page) l.belt c.requires _ l.invariant

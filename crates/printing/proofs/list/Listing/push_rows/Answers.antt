@@ -5,9 +5,6 @@ use Rattle.printing.specs.Printing.{row_text, rows_of}
 use Rattle.printing.proofs.Lines.{row_within, room_for_row, row_after}
 use Rattle.printing.proofs.list.Listing.push_rows.Goals as goal
 
-pub split_at-requires : goal.split_at-requires
-split_at-requires c = (row_within c.args.self.now.belts c.args.self.now.balances c.loop.counter c.loop.rest.now (omega arith) c.loop.invariant.0).0
-
 pub push_row-requires : goal.push_row-requires
 push_row-requires c =
     let a = c.args in

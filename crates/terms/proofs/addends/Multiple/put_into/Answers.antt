@@ -7,7 +7,8 @@ use Rattle.terms.specs.Forms.{Form, norm, insert, add_all, scaled}
 use Rattle.terms.specs.Records.{form_in}
 use Rattle.terms.proofs.Norms.{insert_norm}
 use Rattle.terms.proofs.Recorded.{unread, next_share, drop_later}
-use Rattle.terms.proofs.Wide.{nat_abs_mul, made_fits, made_is}
+use Rattle.std.proofs.lemmas.Int.{unsigned_abs-mul}
+use Rattle.terms.proofs.Wide.{made_fits, made_is}
 use Rattle.terms.proofs.addends.Multiple.put_into.Goals as goal
 
 pub overflow_mul-t : goal.overflow_mul-t
@@ -28,7 +29,7 @@ put_term-n-requires-clause-fits c =
     let f : SFits w64 d = search rules in
     let F = form_in (take c.loop-u.n c.loop-u.work) in
     let t = next_share K c.args.self.now.form.now c.loop-u.u-index (norm F) c.loop-u-test.true c.loop-u.invariant.1 in
-    omega (arith, ap nat_abs (made_is K d g f (omega arith)) ∙ nat_abs_mul K d)
+    omega (arith, ap nat_abs (made_is K d g f (omega arith)) ∙ unsigned_abs-mul K d)
 
 pub loop-u-preserved : goal.loop-u-preserved
 loop-u-preserved c =
@@ -48,7 +49,7 @@ loop-u-preserved c =
       ap (λ (x : Form). add_all x (scaled s K (form_in (drop (j + 1) T)))) e
           ∙ sym (at_drop_more (λ (ts : List Term). add_all F (scaled s K (form_in ts))) T j unread c.loop-u-test.true)
           ∙ c.loop-u.invariant.0,
-      omega (arith, ap norm e, insert_norm S (K *ℤ d) F, nat_abs_mul K d),
+      omega (arith, ap norm e, insert_norm S (K *ℤ d) F, unsigned_abs-mul K d),
       omega (arith, c.put_term-n.ensures.bound),
       drop_later (c.loop-u.n + 1) (c.args.used + (j + 1)) c.put_term-n.new.work c.loop-u.work (omega arith) c.put_term-n.ensures.rest
           ∙ drop_later (c.args.used + j) (c.args.used + (j + 1)) c.loop-u.work c.args.work.now (omega arith) c.loop-u.invariant.3,

@@ -6,7 +6,8 @@ use Rattle.terms.specs.Forms.{Form, norm, add_all, scaled, add_product}
 use Rattle.terms.specs.Records.{form_in}
 use Rattle.terms.proofs.Norms.{add_all_norm, scaled_norm, share_out}
 use Rattle.terms.proofs.Recorded.{unread, norm_step, next_share, drop_later}
-use Rattle.terms.proofs.Wide.{nat_abs_mul, made_fits, made_is}
+use Rattle.std.proofs.lemmas.Int.{unsigned_abs-mul}
+use Rattle.terms.proofs.Wide.{made_fits, made_is}
 use Rattle.terms.proofs.addends.Product.put_into.Goals as goal
 
 -- what the next term's multiple of the other form takes of the room that the rest leaves
@@ -39,7 +40,7 @@ put_into-n-requires-clause-fits c =
     let F = form_in (take c.loop-t.n c.loop-t.work) in
     let t = turn K T j (norm F) B c.loop-t-test.true c.loop-t.invariant.1 in
     let g = made_is K d g f (omega (arith, next_share K T j 0 c.loop-t-test.true (omega (arith, c.loop-t.invariant.2)))) in
-    omega (arith, ap (λ (z : ℤ). nat_abs z * B) g ∙ ap (λ (x : ℕ). x * B) (nat_abs_mul K d))
+    omega (arith, ap (λ (z : ℤ). nat_abs z * B) g ∙ ap (λ (x : ℕ). x * B) (unsigned_abs-mul K d))
 
 pub loop-t-preserved : goal.loop-t-preserved
 loop-t-preserved c =
@@ -62,7 +63,7 @@ loop-t-preserved c =
       ap (λ (x : Form). add_product K x (form_in (drop (j + 1) T)) Q) e
           ∙ sym (at_drop_more (λ (ts : List Term). add_product K F (form_in ts) Q) T j unread c.loop-t-test.true)
           ∙ c.loop-t.invariant.0,
-      omega (arith, ap norm e, add_all_norm F (scaled S (K *ℤ d) Q), scaled_norm S (K *ℤ d) Q ∙ ap (λ (x : ℕ). x * norm Q) (nat_abs_mul K d)),
+      omega (arith, ap norm e, add_all_norm F (scaled S (K *ℤ d) Q), scaled_norm S (K *ℤ d) Q ∙ ap (λ (x : ℕ). x * norm Q) (unsigned_abs-mul K d)),
       omega arith,
       omega (arith, c.put_into-n.ensures.bound),
       drop_later (c.loop-t.n + L) (c.args.used + (j + 1) * L) c.put_into-n.new.work c.loop-t.work (omega arith) c.put_into-n.ensures.rest

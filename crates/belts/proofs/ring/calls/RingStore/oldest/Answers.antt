@@ -1,7 +1,6 @@
-use Rattle.std.proofs.Common.{sym, ap}
-use Rattle.belts.specs.Belts.{first}
-use Rattle.belts.proofs.Turns.{ring_oldest}
+use Rattle.std.proofs.Common.{◌∙◌}
+use Rattle.belts.proofs.Turns.{ring_head}
 use Rattle.belts.proofs.ring.calls.RingStore.oldest.Goals as goal
 
 pub returns : goal.returns
-returns c = simp c.from.ensures (sym (ap first (ring_oldest c.args.self.now c.requires)))
+returns c = c.then_some.ensures ∙ rw (c.held.ensures, c.from.ensures) (ring_head c.args.self.now)
