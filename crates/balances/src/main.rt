@@ -1,15 +1,13 @@
 #![tactic(auto)]
 
-use listing::list_balances;
+use listing::{MOST_WRITTEN, list_balances};
 use printing::print_refusal;
+use sheet::limits::MOST_BYTES;
 use std::io::{Read, Write};
 use std::process::ExitCode;
 
 // One byte more than the longest sheet, so that a longer text is seen to be too long.
-const MOST_READ: u64 = 8193;
-
-// Enough for every list and for every refusal line.
-const MOST_WRITTEN: usize = 9504;
+const MOST_READ: u64 = MOST_BYTES as u64 + 1;
 
 fn run(rt: &HostRuntime) -> anyhow::Result<ExitCode> {
     let mut text = Vec::new(rt.alloc());
@@ -17,10 +15,7 @@ fn run(rt: &HostRuntime) -> anyhow::Result<ExitCode> {
     let mut page = [0; MOST_WRITTEN];
     let (status, written) = match list_balances(text.as_slice(), &mut page) {
         Ok(n) => (ExitCode::SUCCESS, n),
-        Err(fault) => (
-            ExitCode::FAILURE,
-            print_refusal(fault, &mut page).unwrap_or(0),
-        ),
+        Err(fault) => (ExitCode::FAILURE, print_refusal(fault, &mut page)?),
     };
     rt.stdout().write_all(&page[..written.min(MOST_WRITTEN)])?;
     Ok(status)

@@ -10,10 +10,11 @@ use Rattle.sheet.specs.declared.fault.Refusal.TheVariants.{ShortWeights, ManyCol
 use Rattle.sheet.specs.Nodes.{is_belt}
 use Rattle.sheet.specs.Outcomes.{Outcome, written}
 use Rattle.sheet.specs.Refusals.{and_then, refuse_if}
+use Rattle.sheet.proofs.Refusals.{ok_err, passed_if}
 use Rattle.terms.specs.Forms.{Form}
 use Rattle.forms.specs.Gates.{limits}
 use Rattle.kinds.specs.Kinds.{Kind}
-use Rattle.kinds.specs.Elimination as E
+use Rattle.std.specs.Option.{option_map_or}
 use Rattle.kinds.specs.Elimination.{State, any_past, handled, added, eliminated, eliminate, starts}
 use Rattle.elimination.specs.declared.solve.EliminationError.{EliminationError}
 use Rattle.elimination.specs.Memory.{rows_of}
@@ -61,16 +62,13 @@ module _ (K : Kind) where
   named : (n m : ℕ) (s : State K.Num) (b e : ℕ) (rs : List (List K.Num)) → eliminated K n m s b rs ≡ Err e → e < b + length rs
   unfolding eliminated
   named n m s b e [] h = absurd (ok_err h)
-    where
-      ok_err : {A : Type 0} {x : A} {y : ℕ} → ◌≡◌ {A = Result A ℕ} (Ok x) (Err y) → ⊥
-      ok_err h = let z : ◌≡◌ {A = ℕ} 0 1 = cc in omega arith
   named n m s b e (r ∷ rs) h = by (any_past K r) (added K n s (handled K n s.rows m 0 r)) (λ more. named n m more (suc b) e rs) h
     where
       same : {A : Type 0} → ◌≡◌ {A = Result A ℕ} (Err b) (Err e) → b ≡ e
       same h = cc
 
       by : (past : Bool) (o : Option (State K.Num)) → ((more : State K.Num) → eliminated K n m more (suc b) rs ≡ Err e → e < suc b + length rs)
-          → cond past (Err b) (E.or_else o (Err b) (λ more. eliminated K n m more (suc b) rs)) ≡ Err e → e < b + suc (length rs)
+          → cond past (Err b) (option_map_or (λ more. eliminated K n m more (suc b) rs) o (Err b)) ≡ Err e → e < b + suc (length rs)
       by true o ih h = omega (arith, same h)
       by false None ih h = omega (arith, same h)
       by false (Some more) ih h = omega (arith, ih more h)
@@ -139,11 +137,7 @@ module _ (K : Kind) (ns : List Node) (weights : List ℤ) where
           ∙ rows_back t.columns counted [] (long_mapped K.counts t.columns rows (long (flows_of ns)))
 
       room : count_by is_belt ns * count_by is_belt ns ≤ length weights
-      room = ltb-false (length weights) (count_by is_belt ns * count_by is_belt ns) (passed (ltb (length weights) (count_by is_belt ns * count_by is_belt ns)) (tested ns) h)
-        where
-          passed : (b : Bool) (rest : Result (Unit {0}) Fault) → refuse_if b ShortWeights 0 rest ≡ Ok tt → b ≡ false
-          passed true rest e = let z : ◌≡◌ {A = ℕ} 0 1 = cc in absurd (omega arith)
-          passed false rest e = refl
+      room = ltb-false (length weights) (count_by is_belt ns * count_by is_belt ns) (passed_if _ ShortWeights 0 (tested ns) h).0
 
       fits : sizes_fit t.belts t.columns (length (rows_in t)) (length weights) ≡ true
       fits =
@@ -170,7 +164,7 @@ module _ {K : Kind} {Z : ℤ → Type 0} (C : CountsZero K Z) (ns : List Node) (
   abbrev n : ℕ
   n = count_by is_belt ns
 
-  complete : (r : Result ℕ Fault) → ◌≡◌ {A = Outcome ℕ ℤ} (record { answer = r; memory = after }) (derive K ns weights) → IfOk r (λ k. Complete Z n (gain ns) (rows_of k n after))
+  pub complete : (r : Result ℕ Fault) → ◌≡◌ {A = Outcome ℕ ℤ} (record { answer = r; memory = after }) (derive K ns weights) → IfOk r (λ k. Complete Z n (gain ns) (rows_of k n after))
   complete r e = by (ltb (length weights) (n * n)) (derived K ns) refl (ap (λ o. o.answer) e) (ap (λ o. o.memory) e)
     where
       by : (short : Bool) (d : Result (List (List ℤ)) Fault) → derived K ns ≡ d
@@ -183,8 +177,8 @@ module _ {K : Kind} {Z : ℤ → Type 0} (C : CountsZero K Z) (ns : List Node) (
           let all = derived_complete C ns balances f in
           rw g (subst (Complete Z n (gain ns)) (sym (ap (rows_of (length balances) n) m ∙ rows_back n balances (drop (length (flat_map (λ w. w) balances)) weights) all.sized)) all)
 
--- an elimination of the rows xs of a sheet's table, as a call has it: what is told and written is derivation's, and complete
-module _ {K : Kind} {Z : ℤ → Type 0} (C : CountsZero K Z) (ns : List Node) (weights : List ℤ) (t : Table) (tab : Tabulated ns (length weights) t)
+-- an elimination of the rows xs of a sheet's table, as a call has it: what is told and written is derivation's
+module _ (K : Kind) (ns : List Node) (weights : List ℤ) (t : Table) (tab : Tabulated ns (length weights) t)
     (xs after : List ℤ) (same : xs ≡ rows_in t) (r : Result ℕ EliminationError) (solves : (r, after) ≡ solved K t.belts t.columns xs weights) where
   of_table : (r, after) ≡ solved K t.belts t.columns (rows_in t) weights
   of_table = solves ∙ ap (λ ys. solved K t.belts t.columns ys weights) same
@@ -192,8 +186,5 @@ module _ {K : Kind} {Z : ℤ → Type 0} (C : CountsZero K Z) (ns : List Node) (
   pub one_of_32 : Rowed r
   one_of_32 = rowed K ns weights tab.passed t tab.tabled (r, after) of_table
 
-  pub told_exactly : (told : Result ℕ Fault) → told ≡ by_belt r → ◌≡◌ {A = Outcome ℕ ℤ} (record { answer = told; memory = after }) (derive K ns weights)
-  told_exactly told e = ap (λ x. record { answer = x; memory = after }) e ∙ outcome K ns weights tab.passed t tab.tabled (r, after) of_table
-
-  pub told_completely : (told : Result ℕ Fault) → told ≡ by_belt r → IfOk told (λ k. Complete Z (count_by is_belt ns) (gain ns) (rows_of k (count_by is_belt ns) after))
-  told_completely told e = complete C ns weights after told (told_exactly told e)
+  pub told_is : (told : Result ℕ Fault) → told ≡ by_belt r → ◌≡◌ {A = Outcome ℕ ℤ} (record { answer = told; memory = after }) (derive K ns weights)
+  told_is told e = ap (λ x. record { answer = x; memory = after }) e ∙ outcome K ns weights tab.passed t tab.tabled (r, after) of_table

@@ -1,7 +1,8 @@
 -- How columns and rows lie in memory. Assumes nothing.
-use Rattle.std.specs.Prelude.{◌≡◌, ℕ, suc, ◌≤◌, cond, List, [], ◌∷◌, map, length, take, ℤ, pos, ◌==◌}
-use Rattle.std.specs.List.{range_with_len, flat_map, AllByRecursion}
+use Rattle.std.specs.Prelude.{◌≡◌, ℕ, Bool, true, false, cond, List, [], ◌∷◌, map, ℤ, pos, negsuc, count_by, ◌==◌, nat_lt}
+use Rattle.std.specs.List.{range_with_len, flat_map, list_all}
 use Rattle.sheet.specs.declared.node.Node.{Node}
+use Rattle.sheet.specs.Nodes.{is_belt}
 use Rattle.terms.specs.declared.term.Term.{Term}
 use Rattle.terms.specs.Forms.{Form, norm}
 use Rattle.terms.specs.Records.{form_in}
@@ -13,8 +14,12 @@ abbrev pub sets_of : Form → List ℕ
 sets_of p = map (λ t. t.0) p
 
 -- every coefficient is above zero
+abbrev pub is_above : ℤ → Bool
+is_above (pos n) = nat_lt 0 n
+is_above (negsuc n) = false
+
 abbrev pub Above : Form → Type 0
-Above p = AllByRecursion (λ t. (n : ℕ) × (t.1 ≡ pos (suc n))) p
+Above p = list_all (λ t. is_above t.1) p ≡ true
 
 -- the columns that records list, and how often their terms were found together
 abbrev pub columns_in : List Term → List ℕ
@@ -27,13 +32,6 @@ findings ts = norm (form_in ts)
 abbrev pub Found : List Term → Type 0
 Found ts = Above (form_in ts)
 
--- the first n records list the columns cs; terms were found at most k times
-pub record Listed (k : ℕ) (cs : List ℕ) (records : List Term) (n : ℕ) : Type 0 where
-  pub within : n ≤ length records
-  pub columns : columns_in (take n records) ≡ cs
-  pub found : Found (take n records)
-  pub few : findings (take n records) ≤ k
-
 -- the coefficient of a rising form at a column that none of its terms is below, and what is left of the form above it
 abbrev pub leading : ℕ → Form → ℤ
 leading c [] = pos 0
@@ -43,9 +41,9 @@ abbrev pub after : ℕ → Form → Form
 after c [] = []
 after c (t ∷ p) = cond (t.0 == c) p (t ∷ p)
 
--- the flows of the first n belts, from the forms of all lines
-abbrev pub flows_by : List Node → List Form → ℕ → List Form
-flows_by ns fs n = map (λ b. flow_by fs (ports_of ns b)) (range_with_len 0 n)
+-- the flows of the belts, from the forms of all lines
+abbrev pub flows_by : List Node → List Form → List Form
+flows_by ns fs = map (λ b. flow_by fs (ports_of ns b)) (range_with_len 0 (count_by is_belt ns))
 
 -- the rows of some flows over columns, one after another
 abbrev pub rows_over : List ℕ → List Form → List ℤ

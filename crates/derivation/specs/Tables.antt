@@ -1,17 +1,39 @@
 -- The table of a sheet's flows, and why there may be none. Assumes nothing.
-use Rattle.std.specs.Prelude.{◌≡◌, ℕ, ◌*◌, ◌<◌, List, length, take, ℤ, Ok, Err, count_by, Result, nat_lt}
+use Rattle.std.specs.Prelude.{◌≡◌, ℕ, ◌*◌, ◌<◌, ◌≤◌, List, length, take, ℤ, Ok, Err, count_by, Result, nat_lt}
 use Rattle.std.specs.List.{flat_map}
 use Rattle.sheet.specs.declared.node.Node.{Node}
 use Rattle.sheet.specs.declared.fault.Fault.{Fault}
 use Rattle.sheet.specs.declared.fault.Refusal.TheVariants.{ShortWeights, ManyColumns, LargeNumber}
 use Rattle.sheet.specs.Nodes.{is_belt}
+use Rattle.sheet.specs.Views.{nodes_in}
 use Rattle.sheet.specs.Refusals.{fault, and_then, refuse_if}
+use Rattle.terms.specs.Forms.{Form}
 use Rattle.forms.specs.Gates.{limits}
+use Rattle.forms.specs.Slots.{forms_in}
 use Rattle.flows.specs.Flows.{flows_of}
 use Rattle.flows.specs.Columns.{columns_of, table}
 use Rattle.elimination.specs.declared.solve.EliminationError.{EliminationError}
 use Rattle.elimination.specs.declared.solve.EliminationError.TheVariants as Why
+use Rattle.derivation.specs.declared.columns.Columns.{Columns}
+use Rattle.derivation.specs.declared.flow.Worked.{Worked}
 use Rattle.derivation.specs.declared.table.Table.{Table}
+use Rattle.derivation.specs.Memory.{columns_in, findings, flows_by}
+
+-- the columns that are listed, and how often their terms were found together
+abbrev pub sets_in : Columns → List ℕ
+sets_in c = columns_in (take c.used c.records)
+
+abbrev pub found_in : Columns → ℕ
+found_in c = findings (take c.used c.records)
+
+-- these columns are listed; terms were found at most k times
+pub record Lists (k : ℕ) (cs : List ℕ) (c : Columns) : Type 0 where
+  pub columns : sets_in c ≡ cs
+  pub few : found_in c ≤ k
+
+-- the flows of a sheet's belts, from the forms of its lines
+abbrev pub flows_in : Worked → List Form
+flows_in w = flows_by (nodes_in w.sheet.now) (forms_in w.forms.now)
 
 -- the rows of a table, one after another
 abbrev pub rows_in : Table → List ℤ

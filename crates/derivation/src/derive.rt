@@ -1,20 +1,22 @@
-ghost use Rattle.std.specs.Prelude.{◌≡◌, ℤ, ◌*◌, ◌≤◌, length, IfOk, count_by, MatchResult, nat_lt};
+ghost use Rattle.std.specs.Prelude.{◌≡◌, ◌*◌, ◌≤◌, length, IfOk, count_by, MatchResult, nat_lt};
 ghost use Rattle.sheet.specs.Nodes.{is_belt};
 ghost use Rattle.sheet.specs.Views.{nodes_in};
-ghost use Rattle.kinds.specs.Kinds.{Kind, wholes, parities};
+ghost use Rattle.kinds.specs.Kinds.{wholes, parities};
 ghost use Rattle.elimination.specs.Answers.{solved};
 ghost use Rattle.elimination.specs.Memory.{rows_of};
-ghost use Rattle.flows.proofs.Complete.{CountsZero};
-ghost use Rattle.flows.proofs.Derived.{wholes_count, parities_count};
 ghost use Rattle.flows.specs.Derivation.{derive};
 ghost use Rattle.flows.specs.Completeness.{Zero, Even, Complete, gain};
 ghost use Rattle.derivation.specs.Tables.{Tabulated, Refuses, by_belt, Rowed};
 
 use crate::table::Table;
 use elimination::{EliminationError, eliminate_parity, eliminate_whole};
-use kinds::{Parity, Whole};
+use kinds::{Number, Parity, Whole};
 use sheet::fault::{Fault, Refusal};
+use sheet::limits::MOST_BELTS;
 use sheet::sheet::Sheet;
+
+// As many balances as belts, with a weight of each belt: so many numbers are never too few.
+pub const MOST_WEIGHTS: usize = MOST_BELTS * MOST_BELTS;
 
 // Whether so many numbers are too few for as many balances as belts.
 fn is_short(room: usize, belts: usize) -> bool
@@ -39,22 +41,14 @@ fn by_belt(answer: Result<usize, EliminationError>) -> Result<usize, Fault>
     requires { Rowed answer }
     ensures { result ≡ by_belt answer }
 {
-    match answer {
-        Ok(balances) => Ok(balances),
-        Err(EliminationError::LargeNumber(belt)) => Err(Refusal::LargeNumber.at(belt as u16)),
-        Err(EliminationError::Sizes) => Err(Refusal::LargeNumber.into()),
-    }
+    answer.map_err(|error| match error {
+        EliminationError::LargeNumber(belt) => Refusal::LargeNumber.at(belt as u16),
+        EliminationError::Sizes => Refusal::LargeNumber.into(),
+    })
 }
 
 // A kind of number that balances are derived in.
-trait Derives {
-    ghost kind: { Kind };
-
-    // What counts as zero.
-    ghost nothing: { ℤ → Type 0 };
-
-    ghost counts: { CountsZero kind nothing };
-
+trait Derives: Number {
     // The elimination of the first `belts` rows of `columns` whole coefficients each.
     fn eliminate(
         belts: usize,
@@ -62,16 +56,10 @@ trait Derives {
         rows: &[i64],
         weights: &mut [i32],
     ) -> Result<usize, EliminationError>
-        ensures { (result, weights.new) ≡ solved kind belts columns rows.now weights.old };
+        ensures { (result, weights.new) ≡ solved Self.kind belts columns rows.now weights.old };
 }
 
 impl Derives for Whole {
-    ghost kind = { wholes };
-
-    ghost nothing = { Zero };
-
-    ghost counts = { wholes_count };
-
     fn eliminate(
         belts: usize,
         columns: usize,
@@ -83,12 +71,6 @@ impl Derives for Whole {
 }
 
 impl Derives for Parity {
-    ghost kind = { parities };
-
-    ghost nothing = { Even };
-
-    ghost counts = { parities_count };
-
     fn eliminate(
         belts: usize,
         columns: usize,
@@ -102,16 +84,14 @@ impl Derives for Parity {
 // The balances of the table's rows, written.
 fn solve<K: Derives>(sheet: &Sheet, table: &Table, weights: &mut [i32]) -> Result<usize, Fault>
     requires { Tabulated (nodes_in sheet.now) (length weights.old) table.now }
-    ensures exact { record { answer = result; memory = weights.new } ≡ derive K.kind (nodes_in sheet.now) weights.old }
-    ensures complete { IfOk result (λ k. Complete K.nothing (count_by is_belt (nodes_in sheet.now)) (gain (nodes_in sheet.now)) (rows_of k (count_by is_belt (nodes_in sheet.now)) weights.new)) }
+    ensures { record { answer = result; memory = weights.new } ≡ derive K.kind (nodes_in sheet.now) weights.old }
 {
     by_belt(K::eliminate(table.belts, table.columns, table.rows(), weights))
 }
 
 // The balances of a sheet's belts in a kind of number, written.
 fn derive<K: Derives>(sheet: &Sheet, weights: &mut [i32]) -> Result<usize, Fault>
-    ensures exact { record { answer = result; memory = weights.new } ≡ derive K.kind (nodes_in sheet.now) weights.old }
-    ensures complete { IfOk result (λ k. Complete K.nothing (count_by is_belt (nodes_in sheet.now)) (gain (nodes_in sheet.now)) (rows_of k (count_by is_belt (nodes_in sheet.now)) weights.new)) }
+    ensures { record { answer = result; memory = weights.new } ≡ derive K.kind (nodes_in sheet.now) weights.old }
 {
     let table = tabulate(sheet, weights.len())?;
     solve::<K>(sheet, &table, weights)

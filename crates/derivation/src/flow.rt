@@ -19,7 +19,7 @@ pub(crate) const WORK: usize = 1200;
 pub(crate) type Work = [Term; WORK];
 
 // A sheet, with the forms of its lines.
-#[derive(Clone, Copy)]
+#[derive(Drop)]
 pub(crate) struct Worked<'a> {
     pub(crate) sheet: &'a Sheet,
     pub(crate) forms: &'a Forms,
@@ -60,6 +60,6 @@ impl Worked<'_> {
         ensures within { result ≤ length work.new }
         ensures form { form_in (take result work.new) ≡ flow_by (forms_in self.now.forms.now) (ports_of (nodes_in self.now.sheet.now) b) }
     {
-        self.passing(ports_of(self.sheet.nodes(), b), work)
+        self.passing(ports_of(self.sheet, b), work)
     }
 }

@@ -8,4 +8,4 @@ mod ports;
 mod rows;
 mod table;
 
-pub use derive::{derive_parity, derive_whole};
+pub use derive::{MOST_WEIGHTS, derive_parity, derive_whole};

@@ -4,41 +4,40 @@
 #[cfg(test)]
 mod tests;
 
-use derivation::derive_parity;
-use listing::list_balances;
+use derivation::{MOST_WEIGHTS, derive_parity};
+use listing::{MOST_WRITTEN, list_balances};
 use printing::{print_list, print_refusal};
 use sheet::fault::Fault;
 use sheet::sheet::Sheet;
 use std::fs;
 use std::io::Write;
 
-// Enough for every list and for every refusal line.
-const MOST_WRITTEN: usize = 9504;
-
 // The parity balances of a board, as a list.
 fn list_parities(text: &[u8], page: &mut [u8]) -> Result<usize, Fault> {
     let sheet = Sheet::load(text)?;
-    let mut weights = [0; 1024];
+    let mut weights = [0; MOST_WEIGHTS];
     let balances = derive_parity(&sheet, &mut weights)?;
     print_list(sheet.belts(), balances, &weights, page)
 }
 
-// Prints a list that was written, or the line of its refusal, which has to leave the page as it was.
-fn print_page(
+// Prints the list of a board, or the line of its refusal, which has to leave the page as it was.
+fn print_page<L: FnOnce(&[u8], &mut [u8]) -> Result<usize, Fault>>(
     rt: &HostRuntime,
-    answer: Result<usize, Fault>,
-    page: &mut [u8],
-) -> anyhow::Result<()> {
+    text: &[u8],
+    list: L,
+) -> anyhow::Result<()>
+    requires { L.IsAlwaysCallable list }
+{
+    let mut page = [0; MOST_WRITTEN];
+    let answer = list(text, &mut page);
     if answer.is_err() && page.iter().any(|byte| *byte != 0) {
         println!(rt; "a refusal wrote on the page")?;
     }
     let written = match answer {
         Ok(n) => n,
-        Err(fault) => print_refusal(fault, page)?,
+        Err(fault) => print_refusal(fault, &mut page)?,
     };
-    for byte in page.iter().take(written) {
-        rt.stdout().write_all(&[*byte])?;
-    }
+    rt.stdout().write_all(&page[..written.min(MOST_WRITTEN)])?;
     Ok(())
 }
 
@@ -49,12 +48,8 @@ fn main(rt: HostRuntime) -> anyhow::Result<()> {
         let path = format!(in rt.alloc(); "{board}.sheet")?;
         let text = fs::read(&rt, path.as_str())?;
         println!(rt; "{board}")?;
-        let mut page = [0; MOST_WRITTEN];
-        let answer = list_balances(text.as_slice(), &mut page);
-        print_page(&rt, answer, &mut page)?;
-        let mut page = [0; MOST_WRITTEN];
-        let answer = list_parities(text.as_slice(), &mut page);
-        print_page(&rt, answer, &mut page)?;
+        print_page(&rt, text.as_slice(), |text, page| list_balances(text, page))?;
+        print_page(&rt, text.as_slice(), list_parities)?;
     }
     Ok(())
 }

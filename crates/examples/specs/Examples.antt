@@ -1,7 +1,7 @@
 -- Worked examples, as one list with one statement over it: small forms; the board of three belts, from its text to what is
 -- printed of it, and its parity balance; and its first ticks.
 use Rattle.std.specs.Prelude.{◌≡◌, ℕ, List, [], ◌∷◌, ◌++◌, map, length, replicate, ℤ, pos, negsuc, Some, Ok, codes, Option, Result}
-use Rattle.std.specs.List.{range_with_len, flat_map, AllByRecursion}
+use Rattle.std.specs.List.{fold, range_with_len, flat_map, AllByRecursion}
 use Rattle.sheet.specs.declared.fault.Fault.{Fault}
 use Rattle.sheet.specs.Loading.{loaded}
 use Rattle.sheet.specs.Refusals.{and_then}
@@ -25,14 +25,14 @@ pub data Example : Type 0 where
   parity : List ℕ → List (List ℤ) → Example
   ticked : List ℕ → List Model → List (List ℕ) → List Told → List (Option ℕ) → Example
 
--- what each of some ticks tells, with event memory of six bytes, and the line after them
+-- what each of some ticks tells, with event memory of six bytes
 abbrev pub ticks : State → List (List ℕ) → List Told
 ticks s [] = []
 ticks s (x ∷ xs) = ((tick s x (replicate 6 0)).answer, (tick s x (replicate 6 0)).memory) ∷ ticks (tick s x (replicate 6 0)).after xs
 
+-- the line after some ticks
 abbrev pub after_ticks : State → List (List ℕ) → State
-after_ticks s [] = s
-after_ticks s (x ∷ xs) = after_ticks (tick s x (replicate 6 0)).after xs
+after_ticks s xs = fold (λ s x. (tick s x (replicate 6 0)).after) s xs
 
 -- a new line over the bank, with the sheet of a text mounted on it
 abbrev pub mounted_on : List Model → List ℕ → Result State Fault

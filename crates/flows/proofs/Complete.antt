@@ -1,5 +1,5 @@
 -- From rows to columns and back, and with elimination's theorem: balances of flows are complete, over any kind of number.
-use Rattle.std.proofs.Common.{◌≡◌, ℕ, zero, suc, ◌<◌, ◌≤◌, Bool, true, false, ltb, ◌↔◌, List, [], ◌∷◌, map, length, get_or, ℤ, pos, ◌+ℤ◌, ◌-ℤ◌, ◌*ℤ◌, neg_ℤ, nat_abs, Ok, Err, Result, sym, refl, ap, ◌∙◌, subst, ap₂, true≢false, arith}
+use Rattle.std.proofs.Common.{◌≡◌, ℕ, zero, suc, ◌<◌, ◌≤◌, Bool, true, false, ltb, ◌↔◌, List, [], ◌∷◌, map, length, get_or, ℤ, pos, ◌+ℤ◌, ◌-ℤ◌, ◌*ℤ◌, neg_ℤ, nat_abs, Ok, Err, Result, sym, refl, ap, ◌∙◌, subst, ap₂, arith}
 use lib.IntN.{+ℤ_idr}
 use Rattle.std.specs.List.{AllByRecursion}
 use Rattle.std.proofs.lemmas.List.{length-map, get_or-map}
@@ -7,6 +7,7 @@ use Rattle.std.proofs.ByRecursion.{All-get_or, All-from_get_or, All-weaker, All-
 use Rattle.std.proofs.lemmas.Bool.{or_parts}
 use Rattle.sheet.specs.declared.fault.Refusal.TheVariants.{ManyColumns}
 use Rattle.sheet.specs.Refusals.{refuse_if}
+use Rattle.sheet.proofs.Refusals.{ok_err}
 use Rattle.terms.specs.Forms.{Form, value, row_of}
 use Rattle.terms.proofs.Canon.{some_row}
 use Rattle.kinds.specs.Kinds.{Kind, Lawful}
@@ -59,14 +60,6 @@ module _ {Z : ℤ → Type 0} (N : Ideal Z) (flows : List Form) (gains : List Bo
 
 -- ---- an accepted derivation is what elimination found, as it is written
 
-abbrev pub accepted : {A E : Type 0} → Result A E → Bool
-accepted (Ok x) = true
-accepted (Err f) = false
-
-abbrev pub found : {A E : Type 0} → A → Result A E → A
-found d (Ok x) = x
-found d (Err f) = d
-
 -- the weights that elimination gives, and that the balances are these, written
 pub record Found (K : Kind) (flows : List Form) (balances : List (List ℤ)) : Type 0 where
   pub weights : List (List K.Num)
@@ -79,9 +72,9 @@ balances_found K flows balances e = go (ltb 256 (length (columns_of flows))) (el
   where
     go : (t : Bool) (r : Result (List (List K.Num)) ℕ) → eliminate K (length (columns_of flows)) (map (map K.counts) (table flows)) ≡ r
         → refuse_if t ManyColumns 0 (as_written K r) ≡ Ok balances → Found K flows balances
-    go true r f h = absurd (true≢false (sym (ap accepted h)))
-    go false (Ok ws) f h = record { weights = ws; eliminates = f; written = sym (ap (found []) h) }
-    go false (Err b) f h = absurd (true≢false (sym (ap accepted h)))
+    go true r f h = absurd (ok_err (sym h))
+    go false (Ok ws) f h = record { weights = ws; eliminates = f; written = cc }
+    go false (Err b) f h = absurd (ok_err (sym h))
 
 -- ---- a kind of number, and what counts as zero in it
 

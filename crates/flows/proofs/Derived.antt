@@ -1,5 +1,5 @@
 -- The balances of a sheet's belts are complete, and hold of every count that is a sum of gains.
-use Rattle.std.proofs.Common.{◌≡◌, ℕ, zero, suc, ◌%◌, ◌<◌, ◌≤◌, Bool, true, false, cond, List, [], ◌∷◌, length, ℤ, pos, ◌+ℤ◌, ◌*ℤ◌, nat_abs, Ok, Err, count_by, Result, sym, refl, ap, ◌∙◌, subst, ap₂, true≢false, arith}
+use Rattle.std.proofs.Common.{◌≡◌, ℕ, zero, suc, ◌%◌, ◌<◌, ◌≤◌, Bool, true, false, cond, List, [], ◌∷◌, length, ℤ, pos, ◌+ℤ◌, ◌*ℤ◌, nat_abs, Ok, count_by, sym, refl, ap, ◌∙◌, subst, ap₂, arith}
 use lib.IntN.{*ℤ-zero}
 use Rattle.std.specs.List.{AllByRecursion}
 use Rattle.std.proofs.lemmas.List.FromFn.{length-map-range_with_len}
@@ -7,9 +7,8 @@ use Rattle.std.proofs.ByRecursion.{All-weaker}
 use Rattle.std.proofs.lemmas.Int.{ints}
 use Rattle.std.proofs.lemmas.Bool.{ltb-false, eqb-false, ne_eqb}
 use Rattle.sheet.specs.declared.node.Node.{Node}
-use Rattle.sheet.specs.declared.fault.Fault.{Fault}
 use Rattle.sheet.specs.Nodes.{is_belt}
-use Rattle.sheet.specs.Refusals.{and_then}
+use Rattle.sheet.proofs.Refusals.{then_ok}
 use Rattle.terms.proofs.IntLaws.{mul_sum}
 use Rattle.forms.specs.Gates.{limits}
 use Rattle.kinds.specs.Kinds.{Kind, wholes, parities}
@@ -18,7 +17,7 @@ use Rattle.kinds.specs.Parities.{parities_lawful}
 use Rattle.flows.specs.Flows.{flow_of, flows_of}
 use Rattle.flows.specs.Derivation.{balances_of, derived}
 use Rattle.flows.specs.Completeness.{Zero, Even, comes_to, over_rows, gain, weighting, StaysZero, Complete}
-use Rattle.flows.proofs.Complete.{accepted, CountsZero, balances_complete}
+use Rattle.flows.proofs.Complete.{CountsZero, balances_complete}
 use Rattle.flows.proofs.Flowing.{flows_count}
 
 -- ---- the two kinds
@@ -48,11 +47,7 @@ flows_length ns = length-map-range_with_len (flow_of ns) 0 (count_by is_belt ns)
 
 -- accepted past the limits of the forms
 pub derived_found : (K : Kind) (ns : List Node) (balances : List (List ℤ)) → derived K ns ≡ Ok balances → balances_of K (flows_of ns) ≡ Ok balances
-derived_found K ns balances e = go (limits ns) e
-  where
-    go : (r : Result ℕ Fault) → and_then r (λ _. balances_of K (flows_of ns)) ≡ Ok balances → balances_of K (flows_of ns) ≡ Ok balances
-    go (Ok n) h = h
-    go (Err f) h = absurd (true≢false (sym (ap accepted h)))
+derived_found K ns balances e = (then_ok (limits ns) (λ _. balances_of K (flows_of ns)) balances e).2
 
 -- ---- the sum over quantities of sums over rows is the sum over rows of sums over quantities
 

@@ -1,7 +1,7 @@
 -- A belt's flow rises, and in every row it comes to the belt's gain.
-use Rattle.std.proofs.Common.{◌≡◌, ℕ, zero, suc, ◌+◌, ◌<◌, Bool, true, false, cond, ◌&&◌, List, [], ◌∷◌, ◌++◌, length, get_or, ℤ, pos, negsuc, ◌+ℤ◌, ◌-ℤ◌, ◌*ℤ◌, count_by, sym, refl, ap, ◌∙◌, subst, ap₂, arith}
+use Rattle.std.proofs.Common.{◌≡◌, ℕ, suc, ◌+◌, ◌<◌, Bool, true, false, cond, not, ◌&&◌, List, [], ◌∷◌, ◌++◌, length, get_or, ℤ, pos, negsuc, ◌+ℤ◌, ◌-ℤ◌, ◌*ℤ◌, count_by, sym, refl, ap, ◌∙◌, subst, ap₂, arith}
 use lib.IntN.{+ℤ_idl}
-use Rattle.std.specs.List.{AllByRecursion}
+use Rattle.std.specs.List.{AllByRecursion, position_or_len}
 use Rattle.std.proofs.lemmas.List.FromFn.{length-map-range_with_len, get_or-map-range_with_len}
 use Rattle.std.proofs.ByRecursion.{All-from_get_or}
 use Rattle.std.proofs.lemmas.List.{length_push}
@@ -17,7 +17,7 @@ use Rattle.terms.proofs.Values.{add_scaled_value, add_product_value}
 use Rattle.forms.specs.Gates.{forms_of}
 use Rattle.forms.proofs.Told.{counts_wire}
 use Rattle.kinds.specs.Wholes.{*ℤ_assoc}
-use Rattle.flows.specs.Flows.{line_where, ports_of, flow_of, flows_of}
+use Rattle.flows.specs.Flows.{ports_of, flow_of, flows_of}
 use Rattle.flows.specs.Completeness.{gain, Counting}
 
 -- ---- flows rise
@@ -67,15 +67,17 @@ pub length_settled : (ns : List Node) (row : List Bool) → length (settled ns r
 length_settled ns row = omega (arith, settled_length row 0 [] ns)
 
 -- the value at the first line that passes a test
-pub value_at : (p : Node → Bool) (ns : List Node) (ws : List Bool) → length ws ≡ length ns → value_where p ns ws ≡ get_or ws (line_where p ns) false
+pub value_at : (p : Node → Bool) (ns : List Node) (ws : List Bool) → length ws ≡ length ns → value_where p ns ws ≡ get_or ws (position_or_len p ns) false
 value_at p [] [] l = refl
 value_at p [] (w ∷ ws) l = absurd (omega arith)
 value_at p (n ∷ ns) [] l = absurd (omega arith)
 value_at p (n ∷ ns) (w ∷ ws) l = go (p n) (value_at p ns ws (omega arith))
   where
-    go : (b : Bool) → value_where p ns ws ≡ get_or ws (line_where p ns) false → cond b w (value_where p ns ws) ≡ get_or (w ∷ ws) (cond b zero (suc (line_where p ns))) false
+    go : (b : Bool) → value_where p ns ws ≡ get_or ws (position_or_len p ns) false → cond b w (value_where p ns ws) ≡ get_or (w ∷ ws) (cond (not b) (1 + position_or_len p ns) 0) false
     go true e = refl
-    go false e = e
+    go false e =
+        let next : suc (position_or_len p ns) ≡ 1 + position_or_len p ns = omega arith in
+        e ∙ ap (λ k. get_or (w ∷ ws) k false) next
 
 -- a conjunction of two lines' forms counts the conjunction of their wires
 event_counts : (ns : List Node) (row : List Bool) (v w : ℕ) → value (and_form (get_or (forms_of ns) v []) (get_or (forms_of ns) w [])) (row_of row) ≡ pos (bit (get_or (settled ns row) v false && get_or (settled ns row) w false))
@@ -98,7 +100,7 @@ flow_counts ns b row =
     let wire : ℕ → Bool = λ w. get_or ws w false in
     let form : ℕ → Form = λ w. get_or (forms_of ns) w [] in
     let p = ports_of ns b in
-    let at : (test : Node → Bool) → value_where test ns ws ≡ wire (line_where test ns) = λ test. value_at test ns ws (length_settled ns row) in
+    let at : (test : Node → Bool) → value_where test ns ws ≡ wire (position_or_len test ns) = λ test. value_at test ns ws (length_settled ns row) in
     less_counts (and_form (form p.offer) (form p.room)) (and_form (form p.take) (form p.item)) (row_of row)
     (wire p.offer && wire p.room) (wire p.take && wire p.item) (event_counts ns row p.offer p.room) (event_counts ns row p.take p.item)
     ∙ sym (ap₂ (λ (x y : Bool). pos (bit (wire p.offer && x)) -ℤ pos (bit (wire p.take && y))) (at (is_room_of b)) (at (is_item_of b)))

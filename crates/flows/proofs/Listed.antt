@@ -1,10 +1,10 @@
 -- The columns of flows rise, hold every term, and grow in number.
 use Rattle.std.proofs.Common.{◌≡◌, ℕ, suc, ◌≤◌, cond, ltb, ◌⊎◌, List, [], ◌∷◌, length, refl, inl, inr, arith}
-use Rattle.std.specs.List.{AllByRecursion}
+use Rattle.std.specs.List.{fold, AllByRecursion}
 use Rattle.std.proofs.ByRecursion.{All-weaker}
 use Rattle.std.proofs.lemmas.Bool.{cond_both, ltb-true, ltb-false}
 use Rattle.terms.specs.Forms.{Form}
-use Rattle.flows.specs.Columns.{listed, with_form, with_forms, columns_of}
+use Rattle.flows.specs.Columns.{listed, with_form, columns_of}
 
 -- the columns rise from lo on
 abbrev pub Climbs : ℕ → List ℕ → Type 0
@@ -79,21 +79,21 @@ columns_grow cs (t ∷ p) = let a = listed_grow t.0 cs in let b = columns_grow (
 
 -- ---- the terms of forms
 
-pub forms_climb : (cs : List ℕ) (ps : List Form) → Climbs 0 cs → Climbs 0 (with_forms cs ps)
+pub forms_climb : (cs : List ℕ) (ps : List Form) → Climbs 0 cs → Climbs 0 (fold with_form cs ps)
 forms_climb cs [] w = w
 forms_climb cs (p ∷ ps) w = forms_climb (with_form cs p) ps (form_climbs cs p w)
 
-pub forms_old : (x : ℕ) (cs : List ℕ) (ps : List Form) → In x cs → In x (with_forms cs ps)
+pub forms_old : (x : ℕ) (cs : List ℕ) (ps : List Form) → In x cs → In x (fold with_form cs ps)
 forms_old x cs [] h = h
 forms_old x cs (p ∷ ps) h = forms_old x (with_form cs p) ps (form_old x cs p h)
 
-pub forms_new : (cs : List ℕ) (ps : List Form) → AllByRecursion (Covered (with_forms cs ps)) ps
+pub forms_new : (cs : List ℕ) (ps : List Form) → AllByRecursion (Covered (fold with_form cs ps)) ps
 forms_new cs [] = tt
 forms_new cs (p ∷ ps) =
     let ds = with_form cs p in
-    (All-weaker (λ (t : ℕ × _). In t.0 ds) (λ t. In t.0 (with_forms ds ps)) (λ t h. forms_old t.0 ds ps h) p (form_new cs p), forms_new ds ps)
+    (All-weaker (λ (t : ℕ × _). In t.0 ds) (λ t. In t.0 (fold with_form ds ps)) (λ t h. forms_old t.0 ds ps h) p (form_new cs p), forms_new ds ps)
 
-pub all_columns_grow : (cs : List ℕ) (ps : List Form) → length cs ≤ length (with_forms cs ps)
+pub all_columns_grow : (cs : List ℕ) (ps : List Form) → length cs ≤ length (fold with_form cs ps)
 all_columns_grow cs [] = omega arith
 all_columns_grow cs (p ∷ ps) = let a = columns_grow cs p in let b = all_columns_grow (with_form cs p) ps in omega arith
 

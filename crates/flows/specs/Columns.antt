@@ -1,5 +1,6 @@
 -- The columns of a list of flows: their different terms, rising; and the coefficients of each flow in them. Assumes nothing.
 use Rattle.std.specs.Prelude.{ℕ, cond, List, [], ◌∷◌, map, ℤ, pos, ◌+ℤ◌, ◌==◌, nat_lt}
+use Rattle.std.specs.List.{fold}
 use Rattle.terms.specs.Forms.{Form}
 
 -- a term among rising ones, once
@@ -9,16 +10,11 @@ listed s (c ∷ cs) = cond (nat_lt s c) (s ∷ c ∷ cs) (cond (nat_lt c s) (c �
 
 -- the terms of a form among them
 abbrev pub with_form : List ℕ → Form → List ℕ
-with_form cs [] = cs
-with_form cs (t ∷ p) = with_form (listed t.0 cs) p
-
-abbrev pub with_forms : List ℕ → List Form → List ℕ
-with_forms cs [] = cs
-with_forms cs (p ∷ ps) = with_forms (with_form cs p) ps
+with_form = fold (λ cs t. listed t.0 cs)
 
 -- the different terms of the flows, rising
 abbrev pub columns_of : List Form → List ℕ
-columns_of flows = with_forms [] flows
+columns_of = fold with_form []
 
 -- the coefficient with which a term stands in a form, zero where it does not
 abbrev pub coefficient : Form → ℕ → ℤ

@@ -1,17 +1,12 @@
 -- The flow of a belt: what it gains in a row of free wire values, as a form. Assumes nothing.
-use Rattle.std.specs.Prelude.{ℕ, zero, suc, Bool, cond, List, [], ◌∷◌, map, get_or, negsuc, count_by, slice_index_or}
-use Rattle.std.specs.List.{range_with_len}
+use Rattle.std.specs.Prelude.{ℕ, List, [], map, get_or, negsuc, count_by, slice_index_or}
+use Rattle.std.specs.List.{range_with_len, position_or_len}
 use Rattle.sheet.specs.declared.node.Node.{Node}
 use Rattle.sheet.specs.Nodes.{is_belt, is_room_of, is_item_of, belts_of}
 use Rattle.terms.specs.Forms.{Form, and_form, add_scaled}
 use Rattle.forms.specs.Gates.{forms_of}
 
--- the first line that passes a test, or the number of lines
-abbrev pub line_where : (Node → Bool) → List Node → ℕ
-line_where p [] = zero
-line_where p (n ∷ ns) = cond (p n) zero (suc (line_where p ns))
-
--- the wires that a belt's events look at
+-- the wires that a belt's events look at; that of a part that is missing is the number of lines
 pub record Ports : Type 0 where
   pub offer : ℕ
   pub room : ℕ
@@ -21,9 +16,9 @@ pub record Ports : Type 0 where
 abbrev pub ports_of : List Node → ℕ → Ports
 ports_of ns b = record {
   offer = (get_or (belts_of ns) b (0, 0)).0;
-  room = line_where (is_room_of b) ns;
+  room = position_or_len (is_room_of b) ns;
   take = (get_or (belts_of ns) b (0, 0)).1;
-  item = line_where (is_item_of b) ns;
+  item = position_or_len (is_item_of b) ns;
 }
 
 -- the form of the entering event, offer and room, less that of the leaving event, take and item

@@ -1,18 +1,14 @@
 -- What the rules of a sheet say of its belts and its flops.
 use Rattle.std.proofs.Common.{◌≡◌, ℕ, zero, suc, ◌+◌, ◌<◌, ◌≤◌, Bool, true, false, cond, not, ◌||◌, eqb, ltb, leb, List, [], ◌∷◌, length, get_or, take, count_by, refl, ap, ◌∙◌, ⊎_elim, arith}
 use Rattle.std.proofs.lemmas.Bool.{cases_lt, and_parts, ltb-true, leb-true, ne_eqb}
-use Rattle.std.proofs.lemmas.List.Sums.{sum_by-cons}
 use Rattle.sheet.specs.declared.class.Class.TheVariants as Of
 use Rattle.sheet.specs.Nodes.{is_belt, is_free, is_room_of, is_item_of, is_bit_of, is_of, count_of, wire_at}
-use Rattle.sheet.specs.Rules.{belt_fits, names_fit, Lawful}
+use Rattle.sheet.specs.Rules.{belt_fits, names_fit, Complete, Lawful}
+use Rattle.sheet.proofs.Counting.{count_cons}
 use Rattle.line.specs.Words.{Node, Free, Belt, Gate, Sensor, Flop, Room, Item, Bit}
 
 abbrev one : Bool → ℕ
 one t = cond t 1 0
-
--- the count of a list with a node more in front
-count_cons : (p : Node → Bool) (n : Node) (ns : List Node) → count_by p (n ∷ ns) ≡ one (p n) + count_by p ns
-count_cons p n ns = sum_by-cons (λ x. cond (p x) 1 0) n ns
 
 -- the line of a belt
 record LineOf (ns : List Node) (b : ℕ) : Type 0 where
@@ -54,19 +50,19 @@ named_below ns b (Free (Bit c w)) h e =
 named_below ns b (Belt o t) h e = refl
 named_below ns b (Gate g) h e = refl
 
-module _ (ns : List Node) (rules : Lawful ns) where
-  -- the rule on the room, item and bit lines of a belt, by its number
-  pub belt_fits_lem : (b : ℕ) → b < count_by is_belt ns → belt_fits ns b ≡ true
-  belt_fits_lem b h =
-      let l = belt_line ns b h in
-      let fits : (not (is_belt (get_or ns l.line (Free Sensor))) || belt_fits ns (count_by is_belt (take l.line ns))) ≡ true = rules.complete l.line l.within in
-      rw (l.belt, l.number) at fits
+-- the rule on the room, item and bit lines of a belt, by its number
+pub belt_fits_lem : (ns : List Node) → Complete ns → (b : ℕ) → b < count_by is_belt ns → belt_fits ns b ≡ true
+belt_fits_lem ns complete b h =
+    let l = belt_line ns b h in
+    let fits : (not (is_belt (get_or ns l.line (Free Sensor))) || belt_fits ns (count_by is_belt (take l.line ns))) ≡ true = complete l.line l.within in
+    rw (l.belt, l.number) at fits
 
+module _ (ns : List Node) (rules : Lawful ns) where
   -- any number has at most four d lines; past the last belt there is none
   pub few_bits : (b : ℕ) → count_by (is_bit_of b) ns ≤ 4
   few_bits b =
       ⊎_elim
-      (λ h. leb-true _ _ (and_parts (eqb (count_by (is_item_of b) ns) 1) (leb (count_by (is_bit_of b) ns) 4) (and_parts (eqb (count_by (is_room_of b) ns) 1) _ (belt_fits_lem b h)).1).1)
+      (λ h. leb-true _ _ (and_parts (eqb (count_by (is_item_of b) ns) 1) (leb (count_by (is_bit_of b) ns) 4) (and_parts (eqb (count_by (is_room_of b) ns) 1) _ (belt_fits_lem ns rules.complete b h)).1).1)
       (λ h. omega (arith, none_count (is_bit_of b) ns (λ i l. named_below ns b (get_or ns i (Free Sensor)) h (rules.named i l))))
       (cases_lt b (count_by is_belt ns))
 

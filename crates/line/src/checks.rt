@@ -1,6 +1,5 @@
 ghost use Rattle.std.specs.Prelude.{◌≡◌, not, ◌||◌, length, ◌==◌, nat_lt};
 ghost use Rattle.sheet.specs.Nodes.{count_of};
-ghost use Rattle.sheet.specs.Rules.{Lawful};
 ghost use Rattle.sheet.specs.Views.{nodes_in};
 ghost use Rattle.sheet.specs.declared.class.Class.TheVariants as Of;
 ghost use Rattle.std.specs.List.{list_any};
@@ -9,7 +8,6 @@ ghost use Rattle.line.specs.Lines.{narrow, laden, mount_test};
 use crate::numbers::Numbers;
 use banks::bank::Bank;
 use sheet::fault::{Fault, Refusal};
-use sheet::node::Node;
 use sheet::sheet::Sheet;
 
 // Whether a sensor byte is neither 0 nor 1.
@@ -27,11 +25,10 @@ pub(crate) fn are_wrong(sheet: &Sheet, sensors: &[u8]) -> bool
 }
 
 // The lowest belt whose width is below its number of bit lines.
-fn narrow_belt<B: Bank>(bank: &B, nodes: &[Node]) -> Option<u16>
-    requires { Lawful nodes.now }
-    ensures { result ≡ narrow nodes.now (B.belts bank.now) }
+fn narrow_belt<B: Bank>(bank: &B, sheet: &Sheet) -> Option<u16>
+    ensures { result ≡ narrow (nodes_in sheet.now) (B.belts bank.now) }
 {
-    let numbers = Numbers::all(nodes);
+    let numbers = Numbers::all(sheet);
     (0..bank.size() as u16).find(|b| {
         let b = usize::from(*b);
         usize::from(bank.width(b)) < numbers.bits_of(b)
@@ -52,11 +49,11 @@ pub(crate) fn check_mount<B: Bank>(bank: &B, sheet: &Sheet) -> Result<(), Fault>
     if bank.size() != sheet.belts() {
         return Err(Refusal::BeltsDiffer.into());
     }
-    if let Some(place) = narrow_belt(bank, sheet.nodes()) {
+    if let Some(place) = narrow_belt(bank, sheet) {
         return Err(Refusal::NarrowBelt.at(place));
     }
-    match laden_belt(bank) {
-        Some(place) => Err(Refusal::LadenBelt.at(place)),
-        None => Ok(()),
+    if let Some(place) = laden_belt(bank) {
+        return Err(Refusal::LadenBelt.at(place));
     }
+    Ok(())
 }

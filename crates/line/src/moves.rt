@@ -1,15 +1,18 @@
 ghost use Rattle.std.specs.Prelude.{◌≡◌, ℕ, ◌+◌, ◌*◌, ◌<◌, ◌≤◌, false, map, length, take, ◌==◌, slice_index, slice_index_or};
 ghost use Rattle.belts.specs.Belts.{clearing};
 ghost use Rattle.sheet.specs.Nodes.{count_of};
-ghost use Rattle.sheet.specs.Rules.{Lawful};
+ghost use Rattle.sheet.specs.Views.{nodes_in};
 ghost use Rattle.sheet.specs.declared.class.Class.TheVariants as Of;
 ghost use Rattle.line.specs.Lines.{low, word_of, moved, each as each_belt};
 ghost use Rattle.line.specs.Moving.{next_of, with_bit, given_up, taken_in};
 ghost use Rattle.line.specs.Parts.{drivers_of, bits_of, entering_of};
 
+use crate::board::Flops;
 use crate::wires::flag;
 use banks::bank::Bank;
+use sheet::limits::{MOST_BELTS, MOST_FREE_WIRES};
 use sheet::node::{Node, Source};
+use sheet::sheet::Sheet;
 
 // One bit more, below the others, in the word of the belt of which the node is a bit line.
 fn enter_bit(words: &mut [u8], wires: &[bool], node: Node)
@@ -25,12 +28,11 @@ fn enter_bit(words: &mut [u8], wires: &[bool], node: Node)
 }
 
 // The word of each belt's entering bits. The lines are read from the last on, so that the first gives bit 0.
-pub(crate) fn words(nodes: &[Node], wires: &[bool]) -> [u8; 32]
-    requires { Lawful nodes.now }
-    ensures { (b : ℕ) → b < 32 → slice_index result b ≡ word_of wires.now (bits_of b nodes.now) }
+pub(crate) fn words(sheet: &Sheet, wires: &[bool]) -> [u8; MOST_BELTS]
+    ensures { (b : ℕ) → b < 32 → slice_index result b ≡ word_of wires.now (bits_of b (nodes_in sheet.now)) }
 {
-    let mut words = [0; 32];
-    for node in nodes.iter().rev() {
+    let mut words = [0; MOST_BELTS];
+    for node in sheet.nodes().iter().rev() {
         enter_bit(&mut words, wires, *node);
     }
     words
@@ -84,11 +86,11 @@ fn next_value(wires: &[bool], node: Node) -> Option<bool>
 }
 
 // The flops' next values, which are those of their driving wires.
-pub(crate) fn next_flops(nodes: &[Node], wires: &[bool]) -> [bool; 128]
-    requires { Lawful nodes.now }
-    ensures { take (count_of Of.Flop nodes.now) result ≡ map (λ d. slice_index_or wires.now d false) (drivers_of nodes.now) }
+pub(crate) fn next_flops(sheet: &Sheet, wires: &[bool]) -> Flops
+    ensures { take (count_of Of.Flop (nodes_in sheet.now)) result ≡ map (λ d. slice_index_or wires.now d false) (drivers_of (nodes_in sheet.now)) }
 {
-    let mut flops = [false; 128];
+    let mut flops = [false; MOST_FREE_WIRES];
+    let nodes = sheet.nodes();
     let values = nodes.iter().filter_map(|node| next_value(wires, *node));
     for (k, value) in values.enumerate() {
         flops[k] = value;
@@ -97,11 +99,10 @@ pub(crate) fn next_flops(nodes: &[Node], wires: &[bool]) -> [bool; 128]
 }
 
 // Flops that are all low.
-pub(crate) fn low_flops(nodes: &[Node]) -> [bool; 128]
-    requires { Lawful nodes.now }
-    ensures { take (count_of Of.Flop nodes.now) result ≡ low nodes.now }
+pub(crate) fn low_flops(sheet: &Sheet) -> Flops
+    ensures { take (count_of Of.Flop (nodes_in sheet.now)) result ≡ low (nodes_in sheet.now) }
 {
-    [false; 128]
+    [false; MOST_FREE_WIRES]
 }
 
 // Clears every belt.

@@ -1,15 +1,17 @@
 ghost use Rattle.std.specs.Prelude.{◌≡◌, ◌/◌, ◌%◌, ◌^◌, false, [], length, take, ◌==◌, slice_index, slice_index_or};
-ghost use Rattle.sheet.specs.Rules.{Lawful};
+ghost use Rattle.sheet.specs.Views.{nodes_in};
 ghost use Rattle.sheet.specs.Wires.{gate_value, settled};
 ghost use Rattle.line.specs.Lines.{head_bit, free_value, row_from};
 ghost use Rattle.line.specs.Numbers.{number_in, line_value};
 
 use crate::numbers::Numbers;
 use banks::bank::Bank;
+use sheet::limits::MOST_LINES;
 use sheet::node::{Gate, Node, Source};
+use sheet::sheet::Sheet;
 
 // A value for each line of a sheet, in the first of these.
-pub(crate) type Wires = [bool; 640];
+pub(crate) type Wires = [bool; MOST_LINES];
 
 // Value `k` of some wires or flops; low past the last.
 pub(crate) fn flag(values: &[bool], k: usize) -> bool
@@ -59,7 +61,7 @@ fn gate_value(before: &[bool], gate: Gate) -> bool
 }
 
 // What a tick looks at, before anything moves: the bank, the flops and the sensor bytes.
-#[derive(Clone, Copy)]
+#[derive(Drop)]
 pub(crate) struct Inputs<'a, B> {
     pub(crate) bank: &'a B,
     pub(crate) flops: &'a [bool],
@@ -95,14 +97,13 @@ impl<B: Bank> Inputs<'_, B> {
     }
 
     // The value of every line in this tick.
-    pub(crate) fn settle(&self, nodes: &[Node]) -> Wires
-        requires { Lawful nodes.now }
-        ensures { take (length nodes.now) result ≡ settled nodes.now (row_from (B.belts self.now.bank.now) self.now.flops.now self.now.sensors.now [] nodes.now) }
+    pub(crate) fn settle(&self, sheet: &Sheet) -> Wires
+        ensures { take (length (nodes_in sheet.now)) result ≡ settled (nodes_in sheet.now) (row_from (B.belts self.now.bank.now) self.now.flops.now self.now.sensors.now [] (nodes_in sheet.now)) }
     {
-        let mut wires = [false; 640];
+        let mut wires = [false; MOST_LINES];
         let mut numbers = Numbers::new();
-        for (i, node) in nodes.iter().enumerate() {
-            wires[i] = self.line_value(&numbers, &wires[0..i], *node);
+        for (i, node) in sheet.nodes().iter().enumerate() {
+            wires[i] = self.line_value(&numbers, &wires[..i], *node);
             numbers.add(*node);
         }
         wires

@@ -13,6 +13,7 @@ use banks::lanes::six_lanes;
 use banks::single::Single;
 use belts::ring::Ring;
 use line::line::Line;
+use runs::calls::MOST_EVENTS;
 use sheet::sheet::Sheet;
 use std::alloc::Global;
 use std::fs;
@@ -51,7 +52,7 @@ fn first_difference<B: Bank + Drop>(
     line.mount(sheet)?;
     for tick in 0..TICKS {
         let sensors = watch.sensors(heap, tick)?;
-        let mut events = [0; 64];
+        let mut events = [0; MOST_EVENTS];
         let pair = line.tick(&sensors, &mut events)?;
         let expected = plain.tick(heap, sheet.nodes(), &sensors)?;
         if !watch.agrees(&line, &plain)

@@ -1,5 +1,5 @@
 use banks::bank::Bank;
-use derivation::{derive_parity, derive_whole};
+use derivation::{MOST_WEIGHTS, derive_parity, derive_whole};
 use line::line::Line;
 use sheet::class::Class;
 use sheet::node::{Gate, Node, Source};
@@ -29,7 +29,7 @@ fn gate_value(wires: &[bool], gate: Gate) -> bool {
     }
 }
 
-// The belt of a d line, and the wire whose value enters there.
+// The wire whose value enters at a line, if it is a d line of belt `b`.
 fn entering(node: &Node, b: usize) -> Option<u16> {
     match *node {
         Node::Free(Source::Bit { belt, entering }) if usize::from(belt) == b => Some(entering),
@@ -37,41 +37,20 @@ fn entering(node: &Node, b: usize) -> Option<u16> {
     }
 }
 
-// The offer and the take wire of a b line.
-fn offer_and_take(node: &Node) -> Option<(u16, u16)> {
-    match *node {
-        Node::Belt { offer, take } => Some((offer, take)),
-        _ => None,
-    }
-}
-
 // How many d lines a belt has among some lines.
-fn bits_of(nodes: &[Node], b: usize) -> u32 {
-    let mut bits: u32 = 0;
-    for node in nodes {
-        if entering(node, b).is_some() {
-            bits = bits.saturating_add(1);
-        }
-    }
-    bits
+fn bits_of(nodes: &[Node], b: usize) -> usize {
+    nodes.iter().filter(|n| entering(n, b).is_some()).count()
 }
 
 // Whether bit `k` of a word is 1.
-fn is_bit(word: u8, k: u32) -> bool {
-    word.checked_shr(k).unwrap_or(0) % 2 == 1
+fn is_bit(word: u8, k: usize) -> bool {
+    k < 8 && word >> k & 1 == 1
 }
 
 // The word of the values at a belt's d lines, the first the lowest bit.
 fn entering_word(nodes: &[Node], wires: &[bool], b: usize) -> u8 {
-    let mut word: u8 = 0;
-    for node in nodes.iter().rev() {
-        if let Some(wire) = entering(node, b) {
-            word = word
-                .wrapping_mul(2)
-                .wrapping_add(u8::from(high(wires, wire)));
-        }
-    }
-    word
+    let bits = nodes.iter().rev().filter_map(|n| entering(n, b));
+    bits.fold(0, |word: u8, wire| word << 1 | u8::from(high(wires, wire)))
 }
 
 impl Plain {
@@ -171,7 +150,7 @@ impl Plain {
     ) -> Result<Vec<u8>, AllocError> {
         let wires = self.wires(heap, nodes, sensors)?;
         let mut events = Vec::new(heap);
-        for (b, (offer, take)) in nodes.iter().filter_map(offer_and_take).enumerate() {
+        for (b, (offer, take)) in nodes.iter().filter_map(|n| n.offer_and_take()).enumerate() {
             let enters = high(&wires, offer) && self.count(b) < self.places;
             let leaves = high(&wires, take) && self.head(b).is_some();
             events.push(u8::from(enters))?;
@@ -181,6 +160,15 @@ impl Plain {
         }
         self.move_flops(nodes, &wires)?;
         Ok(events)
+    }
+
+    // What a weighting comes to over the counts.
+    fn sum(&self, weights: &[i32]) -> i64 {
+        let products = self.belts.iter().zip(weights).map(|(words, weight)| {
+            let count = i64::try_from(words.len()).unwrap_or(i64::MAX);
+            i64::from(*weight).wrapping_mul(count)
+        });
+        products.fold(0i64, |sum, product| sum.wrapping_add(product))
     }
 }
 
@@ -210,7 +198,7 @@ fn rows_of(
 impl Watch {
     pub(crate) fn over(heap: Global, sheet: &Sheet) -> anyhow::Result<Self> {
         let belts = sheet.belts();
-        let mut weights = [0; 1024];
+        let mut weights = [0; MOST_WEIGHTS];
         let found = derive_whole(sheet, &mut weights)?;
         let wholes = rows_of(heap, &weights, belts, found)?;
         let found = derive_parity(sheet, &mut weights)?;
@@ -249,12 +237,7 @@ impl Watch {
 
     // Whether a line's counts are the plain model's.
     fn counts_agree<B: Bank>(&self, line: &Line<B>, plain: &Plain) -> bool {
-        for b in 0..self.belts {
-            if line.count(b).map(usize::from) != Some(plain.count(b)) {
-                return false;
-            }
-        }
-        true
+        (0..self.belts).all(|b| line.count(b).map(usize::from) == Some(plain.count(b)))
     }
 
     // Whether a line's counts are the plain model's, and every balance comes to zero over them, a parity balance to an even number.
@@ -265,17 +248,5 @@ impl Watch {
                 .parities
                 .iter()
                 .all(|weights| plain.sum(weights) % 2 == 0)
-    }
-}
-
-impl Plain {
-    // What a weighting comes to over the counts.
-    fn sum(&self, weights: &[i32]) -> i64 {
-        let mut sum: i64 = 0;
-        for (words, weight) in self.belts.iter().zip(weights) {
-            let count = i64::try_from(words.len()).unwrap_or(i64::MAX);
-            sum = sum.wrapping_add(i64::from(*weight).wrapping_mul(count));
-        }
-        sum
     }
 }

@@ -1,8 +1,11 @@
 use banks::bank::Bank;
 use banks::beside::Beside;
 use banks::rack::Rack;
+use banks::single::Single;
+use belts::row::PackedRow;
+use belts::series::Series;
 use line::line::Line;
-use runs::calls::{Answer, Call, Report};
+use runs::calls::{Answer, Call, MOST_EVENTS, Report};
 use runs::drive::run;
 use sheet::fault::{Fault, Refusal};
 use sheet::sheet::Sheet;
@@ -108,28 +111,50 @@ fn ticks_and_counts(rt: HostRuntime) -> anyhow::Result<()> {
     Ok(())
 }
 
+// A copy of a line ticks by itself, and a line prints with its bank.
+#[test]
+fn copies_and_prints(rt: HostRuntime) -> anyhow::Result<()> {
+    let sheet = Sheet::load(THREE)?;
+    let two = Series::new(PackedRow::new(8, 0), PackedRow::new(8, 0));
+    let mut line = Line::new(Beside::new(Single::new(two), Rack::new(2, 16, 0)));
+    line.mount(&sheet)?;
+    let mut copy = line.clone()?;
+    let mut events = [7; 6];
+    assert_eq!(rt; copy.tick(&[1, 1], &mut events), Ok((2, 0)));
+    assert_eq!(rt; (copy.count(0), line.count(0)), (Some(1), Some(0)));
+    let bare = Line::new(Single::new(PackedRow::new(2, 4)));
+    assert_eq!(rt;
+        format!(in rt.alloc(); "{bare:?}")?.as_str(),
+        "Line { bank: Single { belt: PackedRow { bits: 0, count: 0, places: 2, width: 4 } }, board: None }"
+    );
+    Ok(())
+}
+
+// Both sensors high, with event memory for three belts.
+const TICK: Call = Call::Tick {
+    sensors: &[1, 1],
+    memory: 6,
+};
+
+// The calls of a run, on a line over three empty belts.
+const CALLS: [Call; 9] = [
+    TICK,
+    Call::Mount(0),
+    TICK,
+    Call::Tick {
+        sensors: &[1, 1],
+        memory: 5,
+    },
+    TICK,
+    Call::Count(2),
+    Call::Clear,
+    Call::Count(2),
+    Call::Mount(1),
+];
+
 #[test]
 fn a_run(rt: HostRuntime) -> anyhow::Result<()> {
     let sheets = [Sheet::load(THREE)?];
-    let tick = Call::Tick {
-        sensors: &[1, 1],
-        memory: 6,
-    };
-    let short = Call::Tick {
-        sensors: &[1, 1],
-        memory: 5,
-    };
-    let calls = [
-        tick,
-        Call::Mount(0),
-        tick,
-        short,
-        tick,
-        Call::Count(2),
-        Call::Clear,
-        Call::Count(2),
-        Call::Mount(1),
-    ];
     let answers = [
         Answer::Refused(Refusal::NoSheet.at(0)),
         Answer::Done,
@@ -143,14 +168,14 @@ fn a_run(rt: HostRuntime) -> anyhow::Result<()> {
     ];
     let mut log = [Report {
         answer: Answer::Done,
-        bytes: [7; 64],
+        bytes: [7; MOST_EVENTS],
     }; 10];
-    let (_line, made) = run(Rack::new(3, 16, 0), &sheets, &calls, &mut log);
+    let (_line, made) = run(Rack::new(3, 16, 0), &sheets, &CALLS, &mut log);
     assert_eq!(rt; made, 9);
     for (report, answer) in log.iter().zip(&answers) {
         assert_eq!(rt; report.answer, *answer);
     }
     assert!(rt; log[4].bytes.starts_with(&[1, 1, 1, 0, 1, 0, 0]));
-    assert_eq!(rt; log[9].bytes, [7; 64]);
+    assert_eq!(rt; log[9].bytes, [7; MOST_EVENTS]);
     Ok(())
 }

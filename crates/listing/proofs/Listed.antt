@@ -1,14 +1,17 @@
 -- From what derivation wrote and what printing made of it to the list of a sheet's balances.
-use Rattle.std.proofs.Common.{◌≡◌, ℕ, zero, suc, ◌*◌, ◌≤◌, Bool, true, false, ◌||◌, ltb, List, [], ◌∷◌, ◌++◌, map, length, take, drop, ℤ, IfOk, Some, Ok, Err, count_by, Result, nat_abs, sym, refl, ap, ◌∙◌, subst, ap₂, arith, mul_comm}
+use Rattle.std.proofs.Common.{◌≡◌, ℕ, zero, suc, ◌*◌, ◌≤◌, Bool, true, false, ltb, List, [], ◌∷◌, ◌++◌, map, length, take, drop, ℤ, slice_index_or, IfOk, Some, Ok, Err, count_by, Result, nat_abs, sym, refl, ap, ◌∙◌, subst, ap₂, arith, mul_comm}
 use Rattle.std.specs.List.{list_any, range_with_len, flat_map, AllByRecursion}
 use Rattle.std.proofs.lemmas.Bool.{le-ltb, or_from}
 use Rattle.std.proofs.lemmas.List.{append-nil, length-append, take_at}
+use Rattle.std.proofs.lemmas.List.Elements.{All-from_recursion}
+use Rattle.std.proofs.lemmas.List.Folds.{list_any-append, list_any_none}
 use Rattle.sheet.specs.declared.node.Node.{Node}
 use Rattle.sheet.specs.declared.fault.Fault.{Fault}
 use Rattle.sheet.specs.declared.fault.Refusal.TheVariants.{ShortWeights, UnfitList}
 use Rattle.sheet.specs.Nodes.{is_belt}
 use Rattle.sheet.specs.Outcomes.{Outcome, written}
 use Rattle.sheet.specs.Refusals.{and_then, refuse_if}
+use Rattle.sheet.proofs.Refusals.{ok_err}
 use Rattle.kinds.specs.Kinds.{wholes}
 use Rattle.elimination.specs.Memory as E
 use Rattle.flows.specs.Completeness.{Zero, Complete, gain}
@@ -31,8 +34,9 @@ same_rows n (suc k) xs = ap (λ rows. take n xs ∷ rows) (same_rows n k (drop n
 
 -- none of some rows' weights is large, if each is within the limit
 none_large : (row rest : List ℤ) → AllByRecursion (λ x. nat_abs x ≤ 1000000) row → list_any is_large rest ≡ false → list_any is_large (row ++ rest) ≡ false
-none_large [] rest h e = e
-none_large (x ∷ row) rest h e = ap (λ b. b || list_any is_large (row ++ rest)) (le-ltb 1000000 (nat_abs x) h.0) ∙ none_large row rest h.1 e
+none_large row rest h e =
+    list_any-append is_large row rest
+    ∙ or_from _ _ (list_any_none is_large row (λ k d l. le-ltb 1000000 (nat_abs (slice_index_or row k d)) (All-from_recursion (λ x. nat_abs x ≤ 1000000) row h k d l))) e
 
 none_in_rows : (rows : List (List ℤ)) → AllByRecursion (AllByRecursion (λ x. nat_abs x ≤ 1000000)) rows → list_any is_large (joined rows) ≡ false
 none_in_rows [] h = refl
@@ -49,9 +53,6 @@ pub record Found (ns : List Node) (k : ℕ) (after : List ℤ) : Type 0 where
 pub found : (ns : List Node) (weights after : List ℤ) (k : ℕ) → ◌≡◌ {A = Outcome ℕ ℤ} (record { answer = Ok k; memory = after }) (derive wholes ns weights) → Found ns k after
 found ns weights after k e = by (ltb (length weights) (count_by is_belt ns * count_by is_belt ns)) (derived wholes ns) refl (ap (λ o. o.answer) e) (ap (λ o. o.memory) e)
   where
-    ok_err : {x : Fault} → ◌≡◌ {A = Result ℕ Fault} (Ok k) (Err x) → ⊥
-    ok_err h = let z : ◌≡◌ {A = ℕ} 0 1 = cc in omega arith
-
     by : (short : Bool) (d : Result (List (List ℤ)) Fault) → derived wholes ns ≡ d
         → Ok k ≡ (written length joined (refuse_if short ShortWeights 0 d) weights).answer
         → after ≡ (written length joined (refuse_if short ShortWeights 0 d) weights).memory → Found ns k after

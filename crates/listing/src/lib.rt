@@ -4,3 +4,4 @@
 mod lists;
 
 pub use lists::list_balances;
+pub use printing::MOST_WRITTEN;

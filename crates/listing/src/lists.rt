@@ -4,13 +4,10 @@ ghost use Rattle.printing.specs.Printing.{in_text};
 ghost use Rattle.listing.specs.Listing.{list_of, list_of_nodes, list_balances};
 ghost use Rattle.listing.specs.Truth.{Tells, Truth};
 
-use derivation::derive_whole;
+use derivation::{MOST_WEIGHTS, derive_whole};
 use printing::print_list;
 use sheet::fault::Fault;
 use sheet::sheet::Sheet;
-
-// As many balances as belts, with a weight of each belt: 32 times 32 numbers are never too few.
-const MOST_WEIGHTS: usize = 1024;
 
 // The list of a sheet's balances, written.
 fn list_sheet(sheet: &Sheet, list: &mut [u8]) -> Result<usize, Fault>

@@ -1,6 +1,7 @@
 -- A list of calls, one more at the end. Assumes nothing.
 use Rattle.std.proofs.Common.{◌≡◌, ℕ, suc, ◌+◌, ◌<◌, ◌≤◌, List, [], ◌∷◌, ◌++◌, length, get_or, take, drop, set, sym, refl, ap, ◌∙◌, subst, arith}
 use Rattle.std.proofs.lemmas.List.{append_assoc, length-take-le, take_at, take_more, drop_more, set_at}
+use Rattle.std.proofs.lemmas.List.Sums.{fold_push}
 use Rattle.sheet.specs.declared.sheet.Sheet.{Sheet}
 use Rattle.banks.specs.Banks.{numbered}
 use Rattle.line.specs.Lines.{State, new_line}
@@ -20,8 +21,7 @@ logged front before log i r h size is =
 
 module _ (sheets : List Sheet) where
   after_push : (s : State) (cs : List Call) (c : Call) → afterwards sheets s (cs ++ c ∷ []) ≡ (performed sheets (afterwards sheets s cs) c).after
-  after_push s [] c = refl
-  after_push s (d ∷ cs) c = after_push (performed sheets s d).after cs c
+  after_push = fold_push (λ s c. (performed sheets s c).after)
 
   reports_push : (s : State) (cs : List Call) (c : Call) → reports sheets s (cs ++ c ∷ []) ≡ reports sheets s cs ++ (performed sheets (afterwards sheets s cs) c).report ∷ []
   reports_push s [] c = refl

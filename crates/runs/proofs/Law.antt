@@ -1,16 +1,15 @@
 -- The law over runs: every call keeps what is known of a line and of the reports so far. Assumes nothing.
-use Rattle.std.proofs.Common.{◌≡◌, ℕ, zero, suc, ◌+◌, ◌*◌, ◌<◌, ◌≤◌, Bool, true, false, cond, not, ◌&&◌, eqb, ltb, List, [], ◌∷◌, ◌++◌, map, length, get_or, drop, ℤ, pos, ◌-ℤ◌, is_some, Some, None, Ok, Err, Option, Result, refl, ap, ◌∙◌, ap₂, ⊎_elim, arith}
+use Rattle.std.proofs.Common.{◌≡◌, ℕ, zero, suc, ◌+◌, ◌*◌, ◌<◌, ◌≤◌, Bool, true, cond, ◌&&◌, eqb, ltb, List, [], ◌∷◌, ◌++◌, map, length, get_or, drop, ℤ, pos, ◌-ℤ◌, is_some, Some, None, Ok, Err, Result, refl, ap, ◌∙◌, ap₂, ⊎_elim, arith}
 use Rattle.std.proofs.lemmas.List.{length-append, length-map, get_or_append_left, get_or-set_other}
 use Rattle.std.proofs.lemmas.Int.{ints}
 use Rattle.std.proofs.lemmas.List.Sums.{sum_by_push}
-use Rattle.std.proofs.lemmas.Bool.{cases_lt, cond-true, eqb-true, and_parts, and_from, lt-ltb, not-false}
+use Rattle.std.proofs.lemmas.Bool.{cases_lt, cond-true, eqb-true, and_parts, and_from, lt-ltb}
 use Rattle.sheet.specs.declared.node.Node.{Node}
 use Rattle.sheet.specs.declared.fault.Fault.{Fault}
-use Rattle.sheet.specs.declared.fault.Refusal.{Refusal}
 use Rattle.sheet.specs.declared.fault.Refusal.TheVariants.{BeltsDiffer, NarrowBelt, LadenBelt}
 use Rattle.sheet.specs.declared.sheet.Sheet.{Sheet}
-use Rattle.sheet.specs.Refusals.{refuse_if, refuse_at}
-use Rattle.sheet.specs.Rules.{Complete}
+use Rattle.sheet.proofs.Refusals.{passed_at, passed_unless}
+use Rattle.sheet.specs.Rules.{Complete, lowest}
 use Rattle.sheet.specs.Wires.{bit}
 use Rattle.belts.specs.Belts.{Model, first, head_of, counted, roomy, clearing}
 use Rattle.banks.specs.Banks.{absent, numbered}
@@ -19,7 +18,7 @@ use Rattle.flows.specs.Completeness.{over_rows, gain}
 use Rattle.flows.proofs.Complete.{CountsZero}
 use Rattle.flows.proofs.Derived.{wholes_count, parities_count, derived_over_counts}
 use Rattle.line.specs.Parts.{belt_count, bits_of}
-use Rattle.line.specs.Lines.{State, Step, step, new_line, lowest_belt, narrow, laden, mount_test, mount, clear_test, clear, row_now, wires_now, enters_now, leaves_now, word_of, moved, each, event_bytes, ticked, tick_test, tick_step, tick_by, tick}
+use Rattle.line.specs.Lines.{State, Step, step, new_line, narrow, laden, mount_test, mount, clear_test, clear, row_now, wires_now, enters_now, leaves_now, word_of, moved, each, event_bytes, ticked, tick_test, tick_step, tick_by, tick}
 use Rattle.runs.specs.declared.calls.Call.{Call}
 use Rattle.runs.specs.declared.calls.Call.TheVariants.{Mount, Tick, Clear, Count}
 use Rattle.runs.specs.declared.calls.Answer.{Answer}
@@ -87,21 +86,12 @@ new_known bank small = fresh (new_line bank) small no_lines (omega arith) (λ h.
 
 -- ---- mounting
 
--- a test that is passed found nothing
-pub passed_if : (b : Bool) (r : Refusal) (p : ℕ) (rest : Result (Unit {0}) Fault) → refuse_if b r p rest ≡ Ok tt → (b ≡ false) × (rest ≡ Ok tt)
-passed_if true r p rest e = let z : ◌≡◌ {A = ℕ} 0 1 = cc in absurd (omega arith)
-passed_if false r p rest e = (refl, e)
-
-passed_at : (o : Option ℕ) (r : Refusal) (rest : Result (Unit {0}) Fault) → refuse_at o r rest ≡ Ok tt → (o ≡ None) × (rest ≡ Ok tt)
-passed_at None r rest e = (refl, e)
-passed_at (Some p) r rest e = let z : ◌≡◌ {A = ℕ} 0 1 = cc in absurd (omega arith)
-
-none_laden : (k : ℕ) (bank : List Model) → lowest_belt (λ b m. is_some (head_of m)) k bank ≡ None → (b : ℕ) → (numbered bank b).words ≡ []
+none_laden : (k : ℕ) (bank : List Model) → lowest (λ b m. is_some (head_of m)) k bank ≡ None → (b : ℕ) → (numbered bank b).words ≡ []
 none_laden k [] e b = refl
 none_laden k (m ∷ ms) e b = go m.words refl (none_laden (suc k) ms) b e
   where
-    go : (ws : List ℕ) → m.words ≡ ws → (lowest_belt (λ b m. is_some (head_of m)) (suc k) ms ≡ None → (b : ℕ) → (numbered ms b).words ≡ [])
-        → (b : ℕ) → cond (is_some (first ws)) (Some k) (lowest_belt (λ b m. is_some (head_of m)) (suc k) ms) ≡ None → (numbered (m ∷ ms) b).words ≡ []
+    go : (ws : List ℕ) → m.words ≡ ws → (lowest (λ b m. is_some (head_of m)) (suc k) ms ≡ None → (b : ℕ) → (numbered ms b).words ≡ [])
+        → (b : ℕ) → cond (is_some (first ws)) (Some k) (lowest (λ b m. is_some (head_of m)) (suc k) ms) ≡ None → (numbered (m ∷ ms) b).words ≡ []
     go [] is later zero e = is
     go [] is later (suc b) e = later e b
     go (w ∷ ws) is later b e = let z : ◌≡◌ {A = ℕ} 0 1 = cc in absurd (omega arith)
@@ -129,10 +119,10 @@ module _ (s : State) (told : List (List ℕ)) (K : Known s told) where
 
   mounts : (ns : List Node) → Complete ns → KnownBy told (turn (λ u. Done) (mount s ns))
   mounts ns whole = by_test (λ u. Done) [] _ (mount_test s.bank ns) (λ e.
-      let one = passed_if (not (eqb (length s.bank) (belt_count ns))) BeltsDiffer 0 _ e in
+      let one = passed_unless (eqb (length s.bank) (belt_count ns)) BeltsDiffer 0 _ e in
       let two = passed_at (narrow ns s.bank) NarrowBelt _ one.1 in
       let three = passed_at (laden s.bank) LadenBelt _ two.1 in
-      let same = eqb-true (length s.bank) (belt_count ns) (not-false _ one.0) in
+      let same = eqb-true (length s.bank) (belt_count ns) one.0 in
       fresh _ K.small whole (omega arith) (λ h. refl) (λ b h. none_laden 0 s.bank three.0 b))
 
   clears : KnownBy told (turn (λ u. Done) (clear s))

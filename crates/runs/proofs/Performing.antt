@@ -1,21 +1,19 @@
 -- What one call comes to, from what its parts give. Assumes nothing.
 use Rattle.std.proofs.Common.{◌≡◌, ℕ, ◌-◌, ◌*◌, min, not, ◌||◌, eqb, ltb, List, [], ◌++◌, length, take, drop, replicate, Ok, Err, Result, sym, refl, ap, ◌∙◌, ap₂, arith}
 use Rattle.std.specs.List.{list_any}
-use native.Mathlib.Nat.{sub-zero}
-use borrow.Rule.Slice.PartMut.{post_of}
 use Rattle.std.proofs.lemmas.List.{length-append, length-drop, length-replicate, take-replicate, drop-replicate}
 use Rattle.std.proofs.lemmas.Bool.{ltb-false}
 use Rattle.sheet.specs.declared.class.Class.TheVariants as Of
 use Rattle.sheet.specs.declared.fault.Fault.{Fault}
 use Rattle.sheet.specs.declared.fault.Refusal.TheVariants.{NoSheet, WrongSensors, ShortEvents}
 use Rattle.sheet.specs.Nodes.{count_of}
+use Rattle.sheet.proofs.Refusals.{passed_if}
 use Rattle.line.specs.Parts.{belt_count}
 use Rattle.line.specs.Lines.{State, Step, enters_now, leaves_now, event_bytes, tick_test, tick_by, tick}
 use Rattle.line.proofs.Bytes.{length_bytes}
 use Rattle.runs.specs.declared.calls.Answer.{Answer}
 use Rattle.runs.specs.declared.calls.Report.{Report}
 use Rattle.runs.specs.Runs.{blank, filled, answer_of, turn}
-use Rattle.runs.proofs.Law.{passed_if}
 
 -- a call without event memory
 pub turned : {R : Type 0} (reply : R → Answer) (a : Result R Fault) (x : Answer) (r : Report) (after : State) (s : Step R)
@@ -40,14 +38,14 @@ tick_length s sensors memory = go (tick_test s sensors (length memory)) refl
         omega (arith, length-append bytes (drop (2 * n) memory), length_bytes (enters_now s sensors) (leaves_now s sensors) n, length-drop (2 * n) memory)
 
 -- a tick in the first of 64 zero bytes, as the code lends them
-pub ticked_in : (reply : ℕ × ℕ → Answer) (s : State) (sensors : List ℕ) (memory n : ℕ) (a : Result (ℕ × ℕ) Fault) (zeros last : List ℕ) (x : Answer) (after : State) → zeros ≡ replicate 64 0 → n ≡ min memory 64 → x ≡ answer_of reply a
-    → record { answer = a; memory = last; after = after } ≡ tick s sensors (take (n - 0) zeros)
-    → record { report = record { answer = x; bytes = last ++ post_of 0 (n - 0) zeros }; after = after } ≡ turn reply (tick s sensors (blank memory))
+pub ticked_in : (reply : ℕ × ℕ → Answer) (s : State) (sensors : List ℕ) (memory n : ℕ) (a : Result (ℕ × ℕ) Fault) (last : List ℕ) (x : Answer) (after : State) → n ≡ min memory 64 → x ≡ answer_of reply a
+    → record { answer = a; memory = last; after = after } ≡ tick s sensors (take n (replicate 64 0))
+    → record { report = record { answer = x; bytes = last ++ drop n (replicate 64 0) }; after = after } ≡ turn reply (tick s sensors (blank memory))
 unfolding filled
-ticked_in reply s sensors memory n a zeros last x after ez en ex es =
+ticked_in reply s sensors memory n a last x after en ex es =
     let t : Step (ℕ × ℕ) = tick s sensors (blank memory) in
-    let front : take (n - 0) zeros ≡ blank memory = ap₂ take (sub-zero n) ez ∙ take-replicate n 64 0 (omega arith) ∙ ap (λ k. replicate k 0) en in
+    let front : take n (replicate 64 0) ≡ blank memory = take-replicate n 64 0 (omega arith) ∙ ap (λ k. replicate k 0) en in
     let size : length t.memory ≡ n = tick_length s sensors (blank memory) ∙ length-replicate (min memory 64) 0 ∙ sym en in
-    let rest : post_of 0 (n - 0) zeros ≡ replicate (64 - length t.memory) 0 = ap₂ (λ (k : ℕ) (zs : List ℕ). drop k zs) (sub-zero n) ez ∙ drop-replicate n 64 0 ∙ ap (λ k. replicate (64 - k) 0) (sym size) in
+    let rest : drop n (replicate 64 0) ≡ replicate (64 - length t.memory) 0 = drop-replicate n 64 0 ∙ ap (λ k. replicate (64 - k) 0) (sym size) in
     ap₂ (λ (y : Answer) (zs : List ℕ). record { report = record { answer = y; bytes = last ++ zs }; after = after }) ex rest
     ∙ ap (λ (z : Step (ℕ × ℕ)). record { report = record { answer = answer_of reply z.answer; bytes = z.memory ++ replicate (64 - length t.memory) 0 }; after = z.after }) (es ∙ ap (tick s sensors) front)

@@ -1,45 +1,21 @@
 -- A tick is a row of free wire values in which the room and item lines tell room and item. Assumes nothing.
-use Rattle.std.proofs.Common.{◌≡◌, ℕ, zero, suc, ◌+◌, ◌<◌, Bool, true, false, cond, not, ◌&&◌, eqb, leb, List, [], ◌∷◌, ◌++◌, length, get_or, take, is_some, count_by, sym, refl, ap, ◌∙◌, subst, ⊎_elim, zero-add, arith}
+use Rattle.std.proofs.Common.{◌≡◌, ℕ, ◌+◌, ◌<◌, Bool, true, false, not, ◌&&◌, eqb, leb, List, [], ◌∷◌, ◌++◌, length, get_or, is_some, count_by, sym, refl, ap, ◌∙◌, ⊎_elim, zero-add, arith}
 use Rattle.std.proofs.lemmas.List.{append_assoc, length-append, length_push, get_or_at, get_or_append_left}
-use Rattle.std.proofs.lemmas.List.Sums.{sum_by-cons}
-use Rattle.std.proofs.lemmas.Bool.{cases_Bool, cond-true, cond-false, eqb-true, and_parts, or_cases, not_from_true, false≢true, both_ways}
+use Rattle.std.proofs.lemmas.Bool.{cases_Bool, cond-true, cond-false, eqb-true, and_parts, false≢true}
 use Rattle.sheet.specs.declared.node.Node.{Node}
 use Rattle.sheet.specs.declared.node.Node.TheVariants.{Free, Belt, Gate}
 use Rattle.sheet.specs.declared.node.Source.TheVariants.{Sensor, Flop, Room, Item, Bit}
 use Rattle.sheet.specs.Nodes.{is_belt, is_free, is_room_of, is_item_of, is_bit_of, belts_of}
-use Rattle.sheet.specs.Rules.{belt_fits, Complete}
+use Rattle.sheet.specs.Rules.{Complete}
 use Rattle.sheet.specs.Wires.{bit, node_value, settled_from, settled, value_where, row_enters, row_leaves}
 use Rattle.belts.specs.Belts.{Model, roomy, head_of}
 use Rattle.banks.specs.Banks.{numbered}
-use Rattle.flows.specs.Flows.{line_where}
+use Rattle.std.specs.List.{position_or_len}
 use Rattle.flows.proofs.Flowing.{length_settled, value_at}
+use Rattle.sheet.proofs.Counting.{count_cons}
 use Rattle.line.specs.Parts.{ordinal}
 use Rattle.line.specs.Lines.{State, free_value, row_from, row_now, wires_now, enters_now, leaves_now}
-
--- ---- the lines of a belt
-
-count_cons : (p : Node → Bool) (n : Node) (ns : List Node) → count_by p (n ∷ ns) ≡ cond (p n) 1 0 + count_by p ns
-count_cons p n ns = sum_by-cons (λ m. cond (p m) 1 0) n ns
-
--- the b line of a belt
-record BeltLine (ns : List Node) (b : ℕ) : Type 0 where
-  line : ℕ
-  inside : line < length ns
-  belt : is_belt (get_or ns line (Free Sensor)) ≡ true
-  number : count_by is_belt (take line ns) ≡ b
-
-belt_line : (ns : List Node) (b : ℕ) → b < count_by is_belt ns → BeltLine ns b
-belt_line [] b h = absurd (omega arith)
-belt_line (Belt o t ∷ ns) zero h = record { line = 0; inside = omega arith; belt = refl; number = refl }
-belt_line (Belt o t ∷ ns) (suc b) h =
-    let l = belt_line ns b (omega (arith, count_cons is_belt (Belt o t) ns)) in
-    record { line = suc l.line; inside = omega arith; belt = l.belt; number = omega (arith, count_cons is_belt (Belt o t) (take l.line ns)) }
-belt_line (Free s ∷ ns) b h =
-    let l = belt_line ns b (omega (arith, count_cons is_belt (Free s) ns)) in
-    record { line = suc l.line; inside = omega arith; belt = l.belt; number = omega (arith, count_cons is_belt (Free s) (take l.line ns)) }
-belt_line (Gate g ∷ ns) b h =
-    let l = belt_line ns b (omega (arith, count_cons is_belt (Gate g) ns)) in
-    record { line = suc l.line; inside = omega arith; belt = l.belt; number = omega (arith, count_cons is_belt (Gate g) (take l.line ns)) }
+use Rattle.line.proofs.Rules.{belt_fits_lem}
 
 -- a belt of a complete sheet has one room line and one item line
 record Parts (ns : List Node) (b : ℕ) : Type 0 where
@@ -48,12 +24,7 @@ record Parts (ns : List Node) (b : ℕ) : Type 0 where
 
 parts : (ns : List Node) → Complete ns → (b : ℕ) → b < count_by is_belt ns → Parts ns b
 parts ns whole b h =
-    let l = belt_line ns b h in
-    let n = get_or ns l.line (Free Sensor) in
-    let fits : belt_fits ns (count_by is_belt (take l.line ns)) ≡ true =
-    ⊎_elim (λ e. absurd (both_ways (not (is_belt n)) (not_from_true (is_belt n) l.belt) e)) (λ e. e) (or_cases (not (is_belt n)) _ (whole l.line l.inside)) in
-    let here : belt_fits ns b ≡ true = subst (λ c. belt_fits ns c ≡ true) l.number fits in
-    let two = and_parts (eqb (count_by (is_room_of b) ns) 1) (eqb (count_by (is_item_of b) ns) 1 && leb (count_by (is_bit_of b) ns) 4) here in
+    let two = and_parts (eqb (count_by (is_room_of b) ns) 1) (eqb (count_by (is_item_of b) ns) 1 && leb (count_by (is_bit_of b) ns) 4) (belt_fits_lem ns whole b h) in
     record { room = eqb-true _ 1 two.0; item = eqb-true _ 1 (and_parts (eqb (count_by (is_item_of b) ns) 1) _ two.1).0 }
 
 -- ---- the wire of the first line that passes a test
@@ -88,7 +59,7 @@ module _ (bank : List Model) (flops : List Bool) (sensors : List ℕ) where
 
   module _ {p : Node → Bool} {v : Bool} (N : Named p v) where
     found_from : (before ns : List Node) (row pre : List Bool) (k : ℕ) (ws : List Bool) → row ≡ pre ++ row_from bank flops sensors before ns → k ≡ length pre → 0 < count_by p ns
-        → get_or (settled_from row k ws ns) (length ws + line_where p ns) false ≡ v
+        → get_or (settled_from row k ws ns) (length ws + position_or_len p ns) false ≡ v
     found_from before [] row pre k ws e l some = absurd (omega arith)
     found_from before (n ∷ ns) row pre k ws e l some =
         let x : Bool = node_value row k ws n in
@@ -98,7 +69,7 @@ module _ (bank : List Model) (flops : List Bool) (sensors : List ℕ) where
         let split : row ≡ pre ++ (own before n ++ rest) = e ∙ ap (λ z. pre ++ z) (row_splits before n ns) in
         ⊎_elim
         (λ (yes : p n ≡ true).
-        let at : length ws + line_where p (n ∷ ns) ≡ length ws = omega (arith, cond-true (p n) zero (suc (line_where p ns)) yes) in
+        let at : length ws + position_or_len p (n ∷ ns) ≡ length ws = omega (arith, cond-false {A = ℕ} (not (p n)) (1 + position_or_len p ns) 0 (ap not yes)) in
         ap (λ i. get_or (settled_from row more us ns) i false) at
         ∙ front_kept row more us ns (length ws) (omega (arith, length_push ws x))
         ∙ get_or_at ws x [] false (length ws) refl
@@ -106,7 +77,7 @@ module _ (bank : List Model) (flops : List Bool) (sensors : List ℕ) where
         ∙ ap (λ z. get_or z k false) (split ∙ ap (λ z. pre ++ (z ++ rest)) (N.value before n yes))
         ∙ get_or_at pre v rest false k (sym l))
         (λ (no : p n ≡ false).
-        let at : length ws + line_where p (n ∷ ns) ≡ length us + line_where p ns = omega (arith, cond-false (p n) zero (suc (line_where p ns)) no, length_push ws x) in
+        let at : length ws + position_or_len p (n ∷ ns) ≡ length us + position_or_len p ns = omega (arith, cond-true {A = ℕ} (not (p n)) (1 + position_or_len p ns) 0 (ap not no), length_push ws x) in
         ap (λ i. get_or (settled_from row more us ns) i false) at
         ∙ found_from (before ++ n ∷ []) ns row (pre ++ own before n) more us
         (split ∙ sym (append_assoc pre (own before n) rest))
@@ -118,7 +89,7 @@ module _ (bank : List Model) (flops : List Bool) (sensors : List ℕ) where
     found ns one =
         let row = row_from bank flops sensors [] ns in
         value_at p ns (settled ns row) (length_settled ns row)
-        ∙ ap (λ i. get_or (settled ns row) i false) (sym (zero-add (line_where p ns)))
+        ∙ ap (λ i. get_or (settled ns row) i false) (sym (zero-add (position_or_len p ns)))
         ∙ found_from [] ns row [] 0 [] refl refl (omega arith)
 
   room_named : (b : ℕ) → Named (is_room_of b) (roomy (numbered bank b))

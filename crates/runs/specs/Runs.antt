@@ -1,5 +1,6 @@
 -- Runs of a line by a list of calls, and the reports of them. Assumes nothing.
 use Rattle.std.specs.Prelude.{ℕ, ◌-◌, min, List, [], ◌∷◌, ◌++◌, map, length, replicate, Ok, Err, Result, slice_index_or}
+use Rattle.std.specs.List.{fold}
 use Rattle.sheet.specs.declared.node.Node.{Node}
 use Rattle.sheet.specs.declared.fault.Fault.{Fault}
 use Rattle.sheet.specs.declared.sheet.Sheet.{Sheet}
@@ -46,8 +47,7 @@ performed sheets s (Count b) = record { report = record { answer = Counted (read
 
 -- the line after a list of calls, made one after another
 abbrev pub afterwards : List Sheet → State → List Call → State
-afterwards sheets s [] = s
-afterwards sheets s (c ∷ cs) = afterwards sheets (performed sheets s c).after cs
+afterwards sheets = fold (λ s c. (performed sheets s c).after)
 
 -- the reports of the calls, one for each
 abbrev pub reports : List Sheet → State → List Call → List Report

@@ -1,5 +1,6 @@
 -- What a caller's log of reports tells of each belt. Assumes nothing.
 use Rattle.std.specs.Prelude.{ℕ, ◌+◌, ◌*◌, List, [], ◌∷◌, ◌++◌, sum_by, slice_index}
+use Rattle.std.specs.List.{fold}
 use Rattle.runs.specs.declared.calls.Answer.{Answer}
 use Rattle.runs.specs.declared.calls.Answer.TheVariants.{Done, Ticked, Counted, Refused}
 use Rattle.runs.specs.declared.calls.Report.{Report}
@@ -12,8 +13,7 @@ heard told (Counted n) bytes = told
 heard told (Refused f) bytes = told
 
 abbrev pub since_from : List (List ℕ) → List Report → List (List ℕ)
-since_from told [] = told
-since_from told (r ∷ log) = since_from (heard told r.answer r.bytes) log
+since_from = fold (λ told r. heard told r.answer r.bytes)
 
 -- the event bytes of the accepted ticks since the last accepted mounting or clearing, by the log alone
 abbrev pub since : List Report → List (List ℕ)

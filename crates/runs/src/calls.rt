@@ -1,4 +1,5 @@
 use sheet::fault::Fault;
+use sheet::limits::MOST_BELTS;
 
 // A call on a line. A mounting names a sheet by its number among those handed over. A tick has sensor bytes and an
 // event memory of so many zero bytes, at most 64. A count is read by a belt's number.
@@ -19,11 +20,14 @@ pub enum Answer {
     Refused(Fault),
 }
 
+// The event memory of a call has at most so many bytes: two for each belt.
+pub const MOST_EVENTS: usize = 2 * MOST_BELTS;
+
 // What a call answered, and the event memory as it was left, with zeros after it.
 #[derive(Clone, Copy, Debug, PartialEq, Eq)]
 pub struct Report {
     pub answer: Answer,
-    pub bytes: [u8; 64],
+    pub bytes: [u8; MOST_EVENTS],
 }
 
 // A call for the first or the second of two lines.

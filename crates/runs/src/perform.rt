@@ -1,17 +1,17 @@
-ghost use Rattle.std.specs.Prelude.{◌≡◌, [], replicate};
-ghost use Rattle.line.specs.Lines.{mount, tick, clear};
+ghost use Rattle.std.specs.Prelude.{◌≡◌, []};
+ghost use Rattle.line.specs.Lines.{mount, tick};
 ghost use Rattle.line.specs.Views.{view};
 ghost use Rattle.runs.specs.declared.calls.Answer.TheVariants.{Done, Ticked, Counted};
 ghost use Rattle.runs.specs.Runs.{sheet_at, blank, filled, answer_of, turn, performed};
 
-use crate::calls::{Answer, Call, Report};
+use crate::calls::{Answer, Call, MOST_EVENTS, Report};
 use banks::bank::Bank;
 use line::line::Line;
 use sheet::fault::Fault;
 use sheet::sheet::Sheet;
 
 // An event memory that nothing was written into.
-const BLANK: [u8; 64] = [0; 64];
+const BLANK: [u8; MOST_EVENTS] = [0; MOST_EVENTS];
 
 // The report of a call that has no event memory.
 fn report(answer: Answer) -> Report
@@ -57,21 +57,13 @@ fn mount_at<B: Bank>(line: &mut Line<B>, sheets: &[Sheet], k: usize) -> Result<(
     }
 }
 
-// Ticks with the first of 64 zero bytes as event memory, `memory` of them or all.
-fn tick_into<B: Bank>(line: &mut Line<B>, sensors: &[u8], memory: usize, bytes: &mut [u8]) -> Answer
-    requires { bytes.old ≡ replicate 64 0 }
-    ensures { record { report = record { answer = result; bytes = bytes.new }; after = view B.belts line.new } ≡ turn (λ p. Ticked p.0 p.1) (tick (view B.belts line.old) sensors.now (blank memory)) }
-{
-    let n = memory.min(64);
-    Answer::from(line.tick(sensors, &mut bytes[0..n]))
-}
-
 // A tick with an event memory of `memory` zero bytes, at most 64, reported.
 fn perform_tick<B: Bank>(line: &mut Line<B>, sensors: &[u8], memory: usize) -> Report
     ensures { record { report = result; after = view B.belts line.new } ≡ turn (λ p. Ticked p.0 p.1) (tick (view B.belts line.old) sensors.now (blank memory)) }
 {
     let mut bytes = BLANK;
-    let answer = tick_into(line, sensors, memory, &mut bytes);
+    let n = memory.min(MOST_EVENTS);
+    let answer = Answer::from(line.tick(sensors, &mut bytes[..n]));
     Report { answer, bytes }
 }
 

@@ -1,19 +1,16 @@
-use derivation::{derive_parity, derive_whole};
+use derivation::{MOST_WEIGHTS, derive_parity, derive_whole};
 use sheet::sheet::Sheet;
 use std::alloc::Global;
 
-// As many balances as belts, with a weight of each belt.
-const MOST_WEIGHTS: usize = 1024;
-
 // A whole balance comes to zero over the counts, a parity balance to an even number.
-#[derive(Clone, Copy, Debug, PartialEq, Eq)]
+#[derive(Clone, Copy, PartialEq, Eq)]
 pub(crate) enum Kind {
     Whole,
     Parity,
 }
 
 // A balance that is watched, and the first tick after which it was off.
-#[derive(Debug, Drop)]
+#[derive(Drop)]
 pub(crate) struct Balance {
     pub kind: Kind,
     pub weights: Vec<i32>,

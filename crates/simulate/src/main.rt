@@ -9,6 +9,7 @@ use crate::rings::Rings;
 use crate::watch::Watch;
 use anyhow::bail;
 use line::line::Line;
+use sheet::limits::MOST_BELTS;
 use sheet::sheet::Sheet;
 use std::process::ExitCode;
 use std::{env, fs};
@@ -31,7 +32,7 @@ fn simulate(rt: &HostRuntime, sheet: &Sheet, places: u8) -> anyhow::Result<()> {
     let mut sensors = Vec::new(rt.alloc());
     for row in rt.lines(rt.alloc()) {
         read_row(row?.as_str(), &mut sensors)?;
-        let mut events = [0; 64];
+        let mut events = [0; 2 * MOST_BELTS];
         match line.tick(&sensors, &mut events) {
             Ok(pair) => watch.took(rt, &line, &events, pair)?,
             Err(fault) => watch.refused(rt, fault)?,

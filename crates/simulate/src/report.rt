@@ -1,6 +1,11 @@
 use crate::balance::{Balance, Kind};
 use std::fmt::Display;
 
+// A blank between two words of a line, and nothing before the first.
+pub(crate) fn gap(i: usize) -> &'static str {
+    if i == 0 { "" } else { " " }
+}
+
 // A word, and numbers after it, each behind a blank.
 pub(crate) fn print_numbers<T: Display>(
     rt: &HostRuntime,
@@ -20,8 +25,7 @@ pub(crate) fn print_weights(rt: &HostRuntime, balance: &Balance) -> anyhow::Resu
         print!(rt; "parity ")?;
     }
     for (b, weight) in balance.weights.iter().enumerate() {
-        let gap = if b == 0 { "" } else { " " };
-        print!(rt; "{gap}{weight}")?;
+        print!(rt; "{}{weight}", gap(b))?;
     }
     Ok(())
 }

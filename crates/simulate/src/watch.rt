@@ -1,5 +1,5 @@
 use crate::balance::{Balance, Kind, balances_of};
-use crate::report::{print_numbers, print_weights};
+use crate::report::{gap, print_numbers, print_weights};
 use banks::bank::Bank;
 use line::line::Line;
 use sheet::fault::Fault;
@@ -43,8 +43,7 @@ impl Watch {
     // The names of the belts, and a line for each balance.
     pub(crate) fn print_head(&self, rt: &HostRuntime) -> anyhow::Result<()> {
         for b in 0..self.belts {
-            let gap = if b == 0 { "" } else { " " };
-            print!(rt; "{gap}B{b}")?;
+            print!(rt; "{}B{b}", gap(b))?;
         }
         println!(rt)?;
         for balance in &self.balances {

@@ -2,9 +2,8 @@ ghost use Rattle.std.specs.Prelude.{◌≡◌, ◌*◌, MatchResult};
 ghost use Rattle.sheet.specs.Views.{nodes_in};
 ghost use Rattle.derivation.specs.Tables.{rows_in, Tabled, Untabled};
 
-use crate::columns::FOUND;
 use crate::flow::{WORK, Worked};
-use crate::table::Table;
+use crate::table::{MOST_NUMBERS, Table};
 use forms::Forms;
 use sheet::fault::Fault;
 use sheet::sheet::Sheet;
@@ -20,15 +19,13 @@ impl Table {
             sheet,
             forms: &forms,
         };
-        let mut found = [Term::default(); FOUND];
         let mut work = [Term::default(); WORK];
-        let columns = worked.collect(&mut found, &mut work)?;
-        let mut numbers = [0; 8192];
-        worked.fill_rows(&found[0..columns], &mut numbers, &mut work);
-        let belts = sheet.belts();
+        let columns = worked.collect(&mut work)?;
+        let mut numbers = [0; MOST_NUMBERS];
+        worked.fill_rows(columns.terms(), &mut numbers, &mut work);
         Ok(Table {
-            belts,
-            columns,
+            belts: sheet.belts(),
+            columns: columns.used,
             numbers,
         })
     }
@@ -37,7 +34,6 @@ impl Table {
     pub(crate) fn rows(&self) -> &[i64]
         ensures { result.now ≡ rows_in self.now }
     {
-        let end = self.belts * self.columns;
-        &self.numbers[0..end]
+        &self.numbers[..self.belts * self.columns]
     }
 }

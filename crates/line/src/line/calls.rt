@@ -35,9 +35,7 @@ impl<B: Bank> Line<B> {
     pub fn tick(&mut self, sensors: &[u8], events: &mut [u8]) -> Result<(usize, usize), Fault>
         ensures { record { answer = result; memory = events.new; after = view B.belts self.new } ≡ lines.tick (view B.belts self.old) sensors.now events.old }
     {
-        let Some(board) = &mut self.board else {
-            return Err(Refusal::NoSheet.into());
-        };
+        let board = self.board.as_mut().ok_or(Refusal::NoSheet)?;
         board.tick(&mut self.bank, sensors, events)
     }
 
@@ -45,9 +43,7 @@ impl<B: Bank> Line<B> {
     pub fn clear(&mut self) -> Result<(), Fault>
         ensures { record { answer = result; memory = []; after = view B.belts self.new } ≡ lines.clear (view B.belts self.old) }
     {
-        let Some(board) = &mut self.board else {
-            return Err(Refusal::NoSheet.into());
-        };
+        let board = self.board.as_mut().ok_or(Refusal::NoSheet)?;
         empty(&mut self.bank);
         board.reset();
         Ok(())
@@ -58,10 +54,6 @@ impl<B: Bank> Line<B> {
         ensures { result ≡ read (view B.belts self.now) belt }
     {
         let board = self.board.as_ref()?;
-        if belt < board.belts() {
-            Some(self.bank.count(belt))
-        } else {
-            None
-        }
+        (belt < board.belts()).then(|| self.bank.count(belt))
     }
 }

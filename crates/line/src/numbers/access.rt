@@ -1,10 +1,12 @@
 ghost use Rattle.std.specs.Prelude.{◌≡◌, ℕ, ◌+◌, ◌<◌, ◌≤◌, [], ◌==◌, slice_index};
-ghost use Rattle.sheet.specs.Rules.{Lawful};
+ghost use Rattle.sheet.specs.Views.{nodes_in};
 ghost use Rattle.sheet.specs.Wires.{bit};
 ghost use Rattle.line.specs.Numbers.{Numbered, Added};
 
 use crate::numbers::Numbers;
+use sheet::limits::MOST_BELTS;
 use sheet::node::{Node, Source};
+use sheet::sheet::Sheet;
 
 impl Numbers {
     pub(crate) fn new() -> Numbers
@@ -13,7 +15,7 @@ impl Numbers {
         Numbers {
             sensors: 0,
             flops: 0,
-            bits: [0; 32],
+            bits: [0; MOST_BELTS],
         }
     }
 
@@ -31,7 +33,7 @@ impl Numbers {
         ensures flops { self.new.flops ≡ self.old.flops }
         ensures bits { (b : ℕ) → b < 32 → slice_index self.new.bits b ≡ slice_index self.old.bits b + bit (belt == b) }
     {
-        if belt < 32 {
+        if belt < MOST_BELTS {
             self.bits[belt] += 1;
         }
     }
@@ -52,12 +54,11 @@ impl Numbers {
     }
 
     // The numbers of all lines of a sheet.
-    pub(crate) fn all(nodes: &[Node]) -> Numbers
-        requires { Lawful nodes.now }
-        ensures { Numbered nodes.now result }
+    pub(crate) fn all(sheet: &Sheet) -> Numbers
+        ensures { Numbered (nodes_in sheet.now) result }
     {
         let mut numbers = Numbers::new();
-        for node in nodes {
+        for node in sheet.nodes() {
             numbers.add(*node);
         }
         numbers

@@ -5,12 +5,13 @@ ghost use Rattle.simulate.specs.Rings.{rings_of};
 ghost use Rattle.std.proofs.Common.{arith};
 ghost use Rattle.std.proofs.lemmas.List.{length-map};
 ghost use Rattle.belts.specs.Layouts.{ring_of};
-ghost use Rattle.simulate.specs.Alterations.{each_ring};
+ghost use Rattle.banks.specs.Rows.{each_belt};
 
 use super::Rings;
 use banks::bank::Bank;
 use belts::belt::Belt;
 use belts::ring::Ring;
+use sheet::limits::MOST_BELTS;
 use std::alloc::{AllocError, Global};
 
 impl Rings {
@@ -18,7 +19,7 @@ impl Rings {
     pub(crate) fn new(heap: Global, rings: usize, places: u8) -> Result<Self, AllocError>
         ensures { IfOk result (λ r. rings_of r ≡ racked rings places 4) }
     {
-        let rings = alike(heap, rings.clamp(1, 32), places)?;
+        let rings = alike(heap, rings.clamp(1, MOST_BELTS), places)?;
         Ok(Rings { rings })
     }
 }
@@ -39,7 +40,7 @@ impl Bank for Rings {
 
     ghost sized = { λ b. let n = length-map b.rings.items ring_of in (omega arith, omega arith) };
 
-    ghost small = { λ b i. each_ring (λ m. (m.places ≤ 65535) × (m.width ≤ 4)) (omega arith, omega arith) (λ r. (omega arith, omega arith)) b.rings.items i };
+    ghost small = { λ b i. each_belt ring_of (λ m. (m.places ≤ 65535) × (m.width ≤ 4)) (omega arith, omega arith) (λ r. (omega arith, omega arith)) b.rings.items i };
 
     fn size(&self) -> usize {
         self.rings.len()

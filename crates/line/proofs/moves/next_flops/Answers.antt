@@ -2,25 +2,23 @@ use Rattle.std.proofs.Common.{◌≡◌, ◌<◌, length, take, sym, ap, ◌∙�
 use Rattle.std.specs.List.{filter_map}
 use borrow.Author.Tests.{tests}
 use Rattle.std.proofs.lemmas.Iterator.{YieldsList-from_slice}
-use Rattle.std.proofs.lemmas.Iterator.Consumers.{YieldsList-from_filter_map, YieldsList-at}
 use Rattle.line.specs.Moving.{next_of}
 use Rattle.line.proofs.Collecting.{collected_one, numbered_turn, numbered_end, told_flops, length_flops}
 use Rattle.line.proofs.Rules.{flops_free}
 use Rattle.line.proofs.moves.next_flops.Goals as goal
 
-turn : (c : goal.In-Some) → (c.in-Some.k ≡ length c.loop-k.yielded) × (length c.loop-k.yielded < length (filter_map (next_of c.args.wires.now) c.args.nodes.now))
+turn : (c : goal.In-Some) → (c.in-Some.k ≡ length c.loop-k.yielded) × (length c.loop-k.yielded < length (filter_map (next_of c.args.wires.now) c.nodes-nodes.result.now))
 turn c =
     let l = c.loop-k in
     let f = next_of c.args.wires.now in
-    numbered_turn c.into_iter-k-iterator.result l.k-iterator l.yielded l.yielded_by (filter_map f c.args.nodes.now)
-    (YieldsList-at {t = c.filter_map-values.result} (cc) (YieldsList-from_filter_map _ f (YieldsList-from_slice c.args.nodes.now (cc)) c.filter_map-values.ensures.closure (λ x r q k. search (rules, tests))))
-    (cc) c.next.result c.next.new.self c.in-Some.k c.in-Some.value c.in-Some.is c.next.ensures.steps
+    numbered_turn c.into_iter-k-iterator.result l.k-iterator l.yielded l.yielded_by f c.filter_map-values.result (cc) (cc) (YieldsList-from_slice c.nodes-nodes.result.now (cc)) c.filter_map-values.ensures.closure
+    (λ x r q k. search (rules, tests)) c.next.result c.next.new.self c.in-Some.k c.in-Some.value c.in-Some.is c.next.ensures.steps
 
 pub bounds-flops-k : goal.bounds-flops-k
 bounds-flops-k c =
-    let ns = c.args.nodes.now in
+    let ns = c.nodes-nodes.result.now in
     let t = turn c in
-    omega (arith, t.0, t.1, length_flops c.args.wires.now ns, flops_free ns, c.requires.free)
+    omega (arith, t.0, t.1, length_flops c.args.wires.now ns, flops_free ns, c.nodes-nodes.ensures.lawful.free)
 
 pub loop-k-preserved : goal.loop-k-preserved
 loop-k-preserved c =
@@ -31,10 +29,9 @@ loop-k-preserved c =
 
 pub returns : goal.returns
 returns c =
-    let ns = c.args.nodes.now in
+    let ns = c.nodes-nodes.result.now in
     let ws = c.args.wires.now in
     let l = c.loop-k in
-    let e = numbered_end c.into_iter-k-iterator.result l.k-iterator l.yielded l.yielded_by (filter_map (next_of ws) ns)
-    (YieldsList-at {t = c.filter_map-values.result} (cc) (YieldsList-from_filter_map _ (next_of ws) (YieldsList-from_slice ns (cc)) c.filter_map-values.ensures.closure (λ x r q k. search (rules, tests))))
-    (cc) c.next.result c.next.new.self c.in-None.is c.next.ensures.steps in
-    ap (λ n. take n l.flops) (sym (e.1 ∙ length_flops ws ns)) ∙ l.invariant.1 ∙ e.0 ∙ told_flops ws ns
+    let e = numbered_end c.into_iter-k-iterator.result l.k-iterator l.yielded l.yielded_by (next_of ws) c.filter_map-values.result (cc) (cc) (YieldsList-from_slice ns (cc)) c.filter_map-values.ensures.closure
+    (λ x r q k. search (rules, tests)) c.next.result c.next.new.self c.in-None.is c.next.ensures.steps in
+    rw (← c.nodes-nodes.ensures.same) (ap (λ n. take n l.flops) (sym (e.1 ∙ length_flops ws ns)) ∙ l.invariant.1 ∙ e.0 ∙ told_flops ws ns)

@@ -1,4 +1,4 @@
-use Rattle.std.proofs.Common.{◌*◌, take, ap, ◌∙◌, arith}
+use Rattle.std.proofs.Common.{◌*◌, ◌∙◌, take, ap}
 use Rattle.std.proofs.lemmas.Result.{err_from_is_err_and}
 use Rattle.sheet.specs.Views.{nodes_in}
 use Rattle.forms.specs.Slots.{forms_in}
@@ -17,13 +17,11 @@ returns c =
     let ns = nodes_in c.args.sheet.now in
     let fs = forms_in c.in_ok-forms.forms in
     let allowed = c.in_ok-forms.ensures in
-    let belts = c.belts-belts.ensures in
+    let columns = c.in_ok-columns.columns in
     let t = c.in_ok-columns.ensures in
-    let found = c.collect.new.columns in
-    let m = c.in_ok-columns.columns in
     record {
-      accepted = within_limits ns fs allowed found m (omega (arith, t.0, c.collect.auto.columns)) t.0 t.1;
-      belts = belts;
-      columns = columns_many ns fs allowed found m (omega (arith, t.0, c.collect.auto.columns)) t.0 t.1;
-      rows = ap (λ k. take (k * m) c.fill_rows.new.numbers) belts ∙ table_rows ns fs allowed found m (omega (arith, t.0, c.collect.auto.columns)) t.0 t.1 _ c.fill_rows.ensures;
+      accepted = within_limits ns fs allowed columns t.0 t.1;
+      belts = c.belts.ensures;
+      columns = columns_many ns fs allowed columns t.0 t.1;
+      rows = ap (λ k. take (k * columns.used) c.fill_rows.new.numbers) c.belts.ensures ∙ table_rows ns fs allowed columns t.0 t.1 _ _ c.terms.ensures c.fill_rows.ensures;
     }

@@ -6,7 +6,7 @@ use Rattle.line.proofs.wires.Inputs.settle.Goals as goal
 
 pub loop-i-preserved : goal.loop-i-preserved
 loop-i-preserved g c =
-    let ns = c.args.nodes.now in
+    let ns = c.nodes-node-items.result.now in
     let i = c.loop-i.i in
     let ws = c.loop-i.wires in
     let bank = g.B.Bank.belts c.args.self.now.bank.now in

@@ -1,6 +1,6 @@
 use Rattle.std.proofs.Common.{rules}
 use Rattle.belts.specs.Belts.{putting}
-use Rattle.simulate.specs.Alterations.{one_altered}
+use Rattle.simulate.proofs.Alterations.{one_altered}
 use Rattle.simulate.proofs.rings.calls.RingsBank.put.Goals as goal
 
 pub returns-then-i-len-clause-kept : goal.returns-then-i-len-clause-kept
