@@ -1,5 +1,6 @@
 use std::alloc::Global;
 use std::test::Fail;
+use terms::sets::{Set, join};
 use terms::{Term, alone, and_form, not_form, or_form, same, value, xor_form};
 
 // Records to work in: enough for two forms of 24 terms and their product.
@@ -16,10 +17,14 @@ fn kept(heap: Global, work: &[Term], count: Option<usize>) -> Result<Form, Fail>
     Ok(form)
 }
 
+// The set of one wire.
+fn one(n: usize) -> Result<Set, Fail> {
+    Ok(alone(n).ok_or("no such wire")?)
+}
+
 fn wire(heap: Global, n: usize) -> Result<Form, Fail> {
-    let set = alone(n).ok_or("no such wire")?;
     let term = Term {
-        set,
+        set: one(n)?,
         coefficient: 1,
     };
     kept(heap, &[term], Some(1))
@@ -128,17 +133,8 @@ fn values_and_refusals(rt: HostRuntime) -> Result<(), Fail> {
     let x = wire(heap, 9)?;
     let y = wire(heap, 17)?;
     let form = xor(heap, &x, &y)?;
-    assert_eq!(rt; value(form.as_slice(), &alone(9).ok_or("no such wire")?), 1);
-    assert_eq!(rt;
-        value(
-            form.as_slice(),
-            &terms::sets::join(
-                &alone(9).ok_or("no such wire")?,
-                &alone(17).ok_or("no such wire")?,
-            ),
-        ),
-        0
-    );
+    assert_eq!(rt; value(form.as_slice(), &one(9)?), 1);
+    assert_eq!(rt; value(form.as_slice(), &join(&one(9)?, &one(17)?)), 0);
     let mut short = [Term::default(); 2];
     assert_eq!(rt; xor_form(x.as_slice(), y.as_slice(), &mut short), None);
     Ok(())
@@ -148,7 +144,7 @@ fn values_and_refusals(rt: HostRuntime) -> Result<(), Fail> {
 #[test]
 fn terms_compare(rt: HostRuntime) -> Result<(), Fail> {
     let heap = rt.alloc();
-    let set = alone(9).ok_or("no such wire")?;
+    let set = one(9)?;
     let once = Term {
         set,
         coefficient: 1,
