@@ -1,5 +1,5 @@
 -- With which numbers a test may refuse, and what comes after it.
-use Rattle.std.proofs.Common.{◌≡◌, ℕ, Bool, true, false, Option, Some, None, Result, Ok, Err, List}
+use Rattle.std.proofs.Common.{ℕ, Bool, true, false, Option, Some, None, Result, Ok, Err, List}
 use Rattle.std.specs.Prelude.{Contains, IfErr}
 use Rattle.std.specs.Option.{ok_or}
 use Rattle.sheet.specs.declared.fault.Fault.{Fault}
