@@ -8,7 +8,7 @@ ghost use Rattle.sheet.specs.declared.fault.Refusal.TheVariants.{UnfitText};
 
 use crate::fault::{Fault, Refusal};
 use crate::limits::MOST_BYTES;
-use crate::reader::{read_names, read_node};
+use crate::reader::{read_line, read_names};
 use crate::sheet::Sheet;
 use crate::sheet::draft::Draft;
 use crate::split::split_once;
@@ -28,7 +28,7 @@ fn read_values(order: Order, values: &[u8]) -> Result<Draft, Fault>
     let mut draft = Draft::new();
     let mut rest = values;
     while let Some((line, after)) = split_once(rest, b'\n') {
-        let node = read_node(order, line, draft.next_line())?;
+        let node = read_line(order, line, draft.next_line())?;
         draft.push(node)?;
         rest = after;
     }
