@@ -1,7 +1,7 @@
-ghost use Rattle.std.specs.Prelude.{◌≡◌, true, [], Ok, Err, MatchResult};
+ghost use Rattle.std.specs.Prelude.{◌≡◌, true, [], Ok, Err, IfErr, MatchResult};
 ghost use Rattle.sheet.specs.Loading.{value_lines, text_fits, loaded};
 ghost use Rattle.sheet.specs.Promises.{Accepted, Refused};
-ghost use Rattle.sheet.specs.Refusals.{fault};
+ghost use Rattle.sheet.specs.Refusals.{fault, IsOneOf, load_numbers};
 ghost use Rattle.sheet.specs.Text.{lines_of};
 ghost use Rattle.sheet.specs.Views.{nodes_in, so_far};
 ghost use Rattle.sheet.specs.declared.fault.Refusal.TheVariants.{UnfitText};
@@ -14,11 +14,14 @@ use crate::sheet::draft::Draft;
 use crate::split::split_once;
 use crate::text::Order;
 
-// A text is not empty, not too long, and ends with a line feed.
-fn is_fit(text: &[u8]) -> bool
-    ensures { result ≡ text_fits text.now }
+// Refuses a text that is empty or too long, or lacks its last line feed.
+fn check_text(text: &[u8]) -> Result<(), Fault>
+    ensures { MatchResult result (λ _. text_fits text.now ≡ true) (λ e. loaded text.now ≡ Err e) }
 {
-    text.len() <= MOST_BYTES && text.last() == Some(&b'\n')
+    if text.len() <= MOST_BYTES && text.last() == Some(&b'\n') {
+        return Ok(());
+    }
+    Err(Refusal::UnfitText.into())
 }
 
 // The nodes of the value lines, in one pass.
@@ -49,13 +52,15 @@ fn read_text(text: &[u8]) -> Result<Sheet, Fault>
 }
 
 impl Sheet {
-    // The sheet that a text writes, or the first refusal.
+    /// The sheet that a text writes, or the first refusal.
+    #[tactic(auto, using(crate::proofs::Written::accepted, crate::proofs::Written::turned_away, crate::proofs::Numbered::numbered))]
     pub fn load(text: &[u8]) -> Result<Sheet, Fault>
-        ensures { MatchResult result (λ s. Accepted text.now (nodes_in s)) (λ e. Refused text.now e) }
+        ensures exact { MatchResult result
+            (λ s. Accepted text.now (nodes_in s))
+            (λ e. Refused text.now e) }
+        ensures numbers { IfErr result (IsOneOf load_numbers) }
     {
-        if !is_fit(text) {
-            return Err(Refusal::UnfitText.into());
-        }
+        check_text(text)?;
         read_text(text)
     }
 }

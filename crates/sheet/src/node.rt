@@ -3,8 +3,8 @@ ghost use Rattle.sheet.specs.Nodes.{is_belt, is_free, is_of, offer_and_take};
 
 use crate::class::Class;
 
-// One value line of a sheet (a node of the netlist). A wire is named by its line number, a belt by its place
-// among the belts. A line is a free wire, a belt, or a gate.
+/// One value line of a sheet (a node of the netlist). A wire is named by its line number, a belt by its place
+/// among the belts. A line is a free wire, a belt, or a gate.
 #[derive(Clone, Copy, Debug, PartialEq, Eq)]
 pub enum Node {
     Free(Source),
@@ -12,7 +12,7 @@ pub enum Node {
     Gate(Gate),
 }
 
-// A free wire (an input or a state bit of the netlist): where its value comes from in a tick.
+/// A free wire (an input or a state bit of the netlist): where its value comes from in a tick.
 #[derive(Clone, Copy, Debug, PartialEq, Eq)]
 pub enum Source {
     Sensor,
@@ -22,7 +22,7 @@ pub enum Source {
     Bit { belt: u16, entering: u16 },
 }
 
-// A gate: a wire whose value earlier wires give.
+/// A gate: a wire whose value earlier wires give.
 #[derive(Clone, Copy, Debug, PartialEq, Eq)]
 pub enum Gate {
     Constant(bool),
@@ -33,21 +33,21 @@ pub enum Gate {
 }
 
 impl Node {
-    // Whether the line is a belt's, and so no wire.
+    /// Whether the line is a belt's, and so no wire.
     pub fn is_belt(self) -> bool
         ensures { result ≡ is_belt self }
     {
         matches!(self, Node::Belt { .. })
     }
 
-    // Whether the line is a free wire.
+    /// Whether the line is a free wire.
     pub fn is_free(self) -> bool
         ensures { result ≡ is_free self }
     {
         matches!(self, Node::Free(_))
     }
 
-    // The offer wire and the take wire of a belt's line.
+    /// The offer wire and the take wire of a belt's line.
     pub fn offer_and_take(self) -> Option<(u16, u16)>
         ensures { result ≡ offer_and_take self }
     {
@@ -57,7 +57,7 @@ impl Node {
         }
     }
 
-    // Whether the line is of a class.
+    /// Whether the line is of a class.
     pub fn is_of(self, class: Class) -> bool
         ensures { result ≡ is_of class self }
     {

@@ -9,8 +9,8 @@ mod access;
 pub(crate) mod draft;
 pub(crate) mod tally;
 
-// A sheet (a netlist): the first `len` of `nodes`. They keep every rule, from the moment that it exists.
-#[derive(Clone, Copy)]
+/// A sheet (a netlist): the first `len` of `nodes`. They keep every rule, from the moment that it exists.
+#[derive(Clone, Copy, Debug)]
 pub struct Sheet {
     nodes: [Node; MOST_LINES],
     len: usize,

@@ -11,7 +11,6 @@ use crate::limits::MOST_LINES;
 use crate::node::{Node, Source};
 use crate::rules::is_wire;
 use crate::sheet::Sheet;
-use std::fmt::{self, Debug};
 
 // How many nodes are of a class.
 fn count_of(class: Class, nodes: &[Node]) -> usize
@@ -21,7 +20,7 @@ fn count_of(class: Class, nodes: &[Node]) -> usize
 }
 
 impl Sheet {
-    // The sheet without lines.
+    /// The sheet without lines.
     pub fn unfilled() -> Sheet
         ensures { nodes_in result ≡ [] }
     {
@@ -31,7 +30,7 @@ impl Sheet {
         }
     }
 
-    // The sheet's lines, in order. They keep every rule.
+    /// The sheet's lines, in order. They keep every rule.
     pub fn nodes(&self) -> &[Node]
         ensures same { result.now ≡ nodes_in self.now }
         ensures lawful { Lawful result.now }
@@ -39,65 +38,59 @@ impl Sheet {
         &self.nodes[..self.len]
     }
 
-    // How many lines the sheet has.
+    /// How many lines the sheet has.
     pub fn len(&self) -> usize
         ensures { result ≡ length (nodes_in self.now) }
     {
         self.nodes().len()
     }
 
-    // The node of line `i`; absent past the last line.
+    /// The node of line `i`; absent past the last line.
     pub fn node(&self, i: usize) -> Option<Node>
         ensures { MatchOption result (length (nodes_in self.now) ≤ i) (λ n. (i < length (nodes_in self.now)) × (n ≡ slice_index_or (nodes_in self.now) i (Line.Free Wire.Sensor))) }
     {
         self.nodes().get(i).copied()
     }
 
-    // Whether a wire stands at a line.
+    /// Whether a wire stands at a line.
     pub fn is_wire(&self, line: u16) -> bool
         ensures { result ≡ wire_at (nodes_in self.now) line }
     {
         is_wire(self.nodes(), line)
     }
 
-    // How many lines are of a class.
+    /// How many lines are of a class.
     pub fn count(&self, class: Class) -> usize
         ensures { result ≡ count_of class (nodes_in self.now) }
     {
         count_of(class, self.nodes())
     }
 
-    // How many belts the sheet has.
+    /// How many belts the sheet has.
     pub fn belts(&self) -> usize
         ensures { result ≡ count_by is_belt (nodes_in self.now) }
     {
         self.count(Class::Belt)
     }
 
-    // How many sensors the sheet has.
+    /// How many sensors the sheet has.
     pub fn sensors(&self) -> usize
         ensures { result ≡ count_of Of.Sensor (nodes_in self.now) }
     {
         self.count(Class::Sensor)
     }
 
-    // How many flops the sheet has.
+    /// How many flops the sheet has.
     pub fn flops(&self) -> usize
         ensures { result ≡ count_of Of.Flop (nodes_in self.now) }
     {
         self.count(Class::Flop)
     }
 
-    // How many free wires the sheet has.
+    /// How many free wires the sheet has.
     pub fn free_wires(&self) -> usize
         ensures { result ≡ count_by is_free (nodes_in self.now) }
     {
         self.count(Class::Free)
-    }
-}
-
-impl Debug for Sheet {
-    fn fmt<W: fmt::Write>(&self, f: &mut fmt::Formatter<W>) -> fmt::Result {
-        f.debug_list().entries(self.nodes()).finish()
     }
 }
