@@ -26,7 +26,9 @@ fn check_text(text: &[u8]) -> Result<(), Fault>
 
 // The nodes of the value lines, in one pass.
 fn read_values(order: Order, values: &[u8]) -> Result<Draft, Fault>
-    ensures { MatchResult result (λ d. value_lines order [] (lines_of values.now) ≡ Ok (so_far d)) (λ e. value_lines order [] (lines_of values.now) ≡ Err e) }
+    ensures { MatchResult result
+        (λ d. value_lines order [] (lines_of values.now) ≡ Ok (so_far d))
+        (λ e. value_lines order [] (lines_of values.now) ≡ Err e) }
 {
     let mut draft = Draft::new();
     let mut rest = values;
@@ -41,7 +43,9 @@ fn read_values(order: Order, values: &[u8]) -> Result<Draft, Fault>
 // The sheet of a text that is fit, or the first refusal.
 fn read_text(text: &[u8]) -> Result<Sheet, Fault>
     requires { text_fits text.now ≡ true }
-    ensures { MatchResult result (λ s. loaded text.now ≡ Ok (nodes_in s)) (λ e. loaded text.now ≡ Err e) }
+    ensures { MatchResult result
+        (λ s. loaded text.now ≡ Ok (nodes_in s))
+        (λ e. loaded text.now ≡ Err e) }
 {
     let Some((names, values)) = split_once(text, b'\n') else {
         return Err(Refusal::UnfitText.into());

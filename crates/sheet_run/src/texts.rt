@@ -332,7 +332,6 @@ mod tests {
             "refused 7 at 12"
         );
         assert_eq!(rt; format!(in heap; "{:?}", Part::Room)?.as_str(), "Room");
-        assert_eq!(rt; format!(in heap; "{:?}", Sheet::unfilled())?.as_str(), "[]");
         assert_eq!(rt; Order::LeftRightKind.names(), b"left right kind".as_slice());
         Ok(())
     }

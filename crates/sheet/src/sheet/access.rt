@@ -47,7 +47,10 @@ impl Sheet {
 
     /// The node of line `i`; absent past the last line.
     pub fn node(&self, i: usize) -> Option<Node>
-        ensures { MatchOption result (length (nodes_in self.now) ≤ i) (λ n. (i < length (nodes_in self.now)) × (n ≡ slice_index_or (nodes_in self.now) i (Line.Free Wire.Sensor))) }
+        ensures { MatchOption result
+            (length (nodes_in self.now) ≤ i)
+            (λ n. (i < length (nodes_in self.now))
+            × (n ≡ slice_index_or (nodes_in self.now) i (Line.Free Wire.Sensor))) }
     {
         self.nodes().get(i).copied()
     }

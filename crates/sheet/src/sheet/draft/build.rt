@@ -35,7 +35,9 @@ impl Draft {
 
     // One node more, or the refusal of its line for the sizes or for the order of gates.
     pub(crate) fn push(&mut self, node: Node) -> Result<(), Fault>
-        ensures { MatchResult result (λ _. admitted (so_far self.old) node ≡ Ok (so_far self.new)) (λ e. admitted (so_far self.old) node ≡ Err e) }
+        ensures { MatchResult result
+            (λ _. admitted (so_far self.old) node ≡ Ok (so_far self.new))
+            (λ e. admitted (so_far self.old) node ≡ Err e) }
     {
         let at = self.len;
         let belts = self.belts + usize::from(node.is_belt());
@@ -56,7 +58,9 @@ impl Draft {
 
     // Refuses the lowest b line whose belt has other parts than the rule asks.
     fn check_belts(&self) -> Result<(), Fault>
-        ensures { MatchResult result (λ _. unfit (so_far self.now) ≡ None) (λ e. (p : ℕ) × (unfit (so_far self.now) ≡ Some p) × (e ≡ fault UnfitBelt p)) }
+        ensures { MatchResult result
+            (λ _. unfit (so_far self.now) ≡ None)
+            (λ e. (p : ℕ) × (unfit (so_far self.now) ≡ Some p) × (e ≡ fault UnfitBelt p)) }
     {
         let lines = self.nodes[..self.len].iter().enumerate();
         let mut belts = lines.filter(|(_, node)| node.is_belt()).enumerate();
@@ -80,7 +84,9 @@ impl Draft {
 
     // The sheet of all nodes, or the refusal of one for its names or for its belt's parts.
     pub(crate) fn finish(&self) -> Result<Sheet, Fault>
-        ensures { MatchResult result (λ s. checked (so_far self.now) ≡ Ok (nodes_in s)) (λ e. checked (so_far self.now) ≡ Err e) }
+        ensures { MatchResult result
+            (λ s. checked (so_far self.now) ≡ Ok (nodes_in s))
+            (λ e. checked (so_far self.now) ≡ Err e) }
     {
         let lines = Lines {
             nodes: &self.nodes[..self.len],
