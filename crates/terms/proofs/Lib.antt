@@ -9,6 +9,7 @@ pub mod Recorded
 pub mod Wide
 pub mod Norms
 pub mod Over
+pub mod Blanked
 pub mod Inserts
 pub mod Fitting
 pub mod Gating

@@ -1,10 +1,11 @@
 -- Records beside the terms that they hold.
-use Rattle.std.proofs.Common.{◌≡◌, ℕ, ◌+◌, ◌-◌, ◌*◌, ◌^◌, ◌<◌, ◌≤◌, List, [], ◌∷◌, ◌++◌, map, length, get_or, take, drop, ℤ, pos, nat_abs, sym, ap, ◌∙◌, ap₂, mul-add, arith}
-use Rattle.std.proofs.lemmas.List.{at_drop_more, drop-drop, length-map, length-take-le, map-append, take_more}
+use Rattle.std.proofs.Common.{◌≡◌, ℕ, suc, ◌+◌, ◌-◌, ◌*◌, ◌^◌, ◌<◌, ◌≤◌, List, [], ◌∷◌, ◌++◌, map, length, get_or, take, drop, replicate, ℤ, pos, nat_abs, sym, refl, ap, ◌∙◌, ap₂, mul-add, arith}
+use Rattle.std.proofs.lemmas.List.{append_assoc, at_drop_more, drop_at, drop-drop, length-append, length-map, length-replicate, length-take-le, map-append, take_at, take_more}
 use Rattle.terms.specs.declared.term.Term.{Term}
 use Rattle.terms.specs.Sets.{number_of, bytes_of}
 use Rattle.terms.specs.Forms.{Form, norm}
-use Rattle.terms.specs.Records.{entry_of, form_in, term_of, Held}
+use Rattle.terms.specs.Records.{entry_of, form_in, term_of, blank, Held}
+use Rattle.terms.specs.Editing.{InFront}
 use Rattle.terms.proofs.Bytes.{bytes_number}
 
 -- what a read past the end would give
@@ -32,7 +33,7 @@ length_form_in ts = length-map ts entry_of
 pub counted : (n : ℕ) (ts : List Term) (p : Form) → n ≤ length ts → form_in (take n ts) ≡ p → n ≡ length p
 counted n ts p h e = sym (length-take-le n ts h) ∙ sym (length_form_in (take n ts)) ∙ ap length e
 
-pub holding : (reach n : ℕ) (p : Form) (W W' : List Term) → n ≤ length W' → n ≤ reach → form_in (take n W') ≡ p → drop reach W' ≡ drop reach W → Held reach p W W' n
+pub holding : (reach n : ℕ) (p : Form) (W W' : List Term) → n ≤ length W' → n ≤ reach → form_in (take n W') ≡ p → drop reach W' ≡ drop reach W → InFront reach p W W' n
 holding reach n p W W' l b e f = record { count = counted n W' p l e; within = l; bound = b; form = e; rest = f }
 
 -- what stays from a place on stays from any later place on
@@ -45,8 +46,8 @@ drop_later m n xs ys h e =
     later = n - m
 
 -- what one call held, as a later call or a contract has it
-pub onward : (reach reach' n : ℕ) (p p' : Form) (W W' W₀ : List Term) → Held reach p W W' n → p ≡ p' → reach ≤ reach' → drop reach' W ≡ drop reach' W₀
-    → Held reach' p' W₀ W' n
+pub onward : (reach reach' n : ℕ) (p p' : Form) (W W' W₀ : List Term) → InFront reach p W W' n → p ≡ p' → reach ≤ reach' → drop reach' W ≡ drop reach' W₀
+    → InFront reach' p' W₀ W' n
 onward reach reach' n p p' W W' W₀ h e l f = record {
   count = h.count ∙ ap length e;
   within = h.within;
@@ -70,3 +71,21 @@ terms_more ts i h e f =
     ∙ map-append term_of (form_in (take i ts)) (entry_of (get_or ts i unread) ∷ [])
     ∙ ap₂ (λ (us : List Term) (u : Term). us ++ u ∷ []) e f
     ∙ sym (take_more ts i unread h)
+
+-- the first records are those of the terms that they hold, where each is of sixteen bytes
+pub terms_back : (ts : List Term) → ((i : ℕ) → i < length ts → term_of (entry_of (get_or ts i unread)) ≡ get_or ts i unread) → map term_of (form_in ts) ≡ ts
+terms_back [] h = refl
+terms_back (t ∷ ts) h = ap₂ (λ (u : Term) (us : List Term). u ∷ us) (h 0 (omega arith)) (terms_back ts (λ i l. h (suc i) (omega arith)))
+
+-- a form that is held stands in front
+pub in_front : (reach n : ℕ) (p : Form) (W W' : List Term) → Held reach p W W' n → InFront reach p W W' n
+in_front reach n p W W' h = record {
+  count = h.count;
+  within = omega (arith, ap length h.records ∙ length-append (map term_of p) _, length-map p term_of, h.count);
+  bound = h.bound;
+  form = h.form;
+  rest = ap (drop reach) (h.records ∙ sym (append_assoc (map term_of p) (replicate (reach - n) blank) (drop reach W))) ∙ drop_at (map term_of p ++ replicate (reach - n) blank) (drop reach W) reach size;
+}
+  where
+    size : length (map term_of p ++ replicate (reach - n) blank) ≡ reach
+    size = length-append (map term_of p) (replicate (reach - n) blank) ∙ omega (arith, length-map p term_of, length-replicate (reach - n) blank, h.count, h.bound)

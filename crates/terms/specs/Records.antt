@@ -1,5 +1,5 @@
 -- Term records, the forms that they hold, and what the calls that merge forms in lent records leave. Assumes nothing.
-use Rattle.std.specs.Prelude.{◌≡◌, ℕ, ◌+◌, ◌*◌, ◌^◌, ◌<◌, ◌≤◌, Bool, true, false, ◌&&◌, List, ◌++◌, map, length, take, drop, ℤ, pos, Option, MatchOption, nat_le, nat_lt, unsigned_abs}
+use Rattle.std.specs.Prelude.{◌≡◌, ℕ, ◌+◌, ◌*◌, ◌-◌, ◌^◌, ◌<◌, ◌≤◌, Bool, true, false, ◌&&◌, List, ◌++◌, map, length, take, drop, replicate, ℤ, pos, Option, MatchOption, nat_le, nat_lt, unsigned_abs}
 use Rattle.terms.specs.declared.term.Term.{Term}
 use Rattle.terms.specs.Sets.{number_of, bytes_of}
 use Rattle.terms.specs.Forms.{Form, value, Rising, bit, norm}
@@ -14,6 +14,10 @@ form_in ts = map entry_of ts
 -- the record that holds a term
 abbrev pub term_of : ℕ × ℤ → Term
 term_of t = record { set = bytes_of 16 t.0; coefficient = t.1 }
+
+-- the record that holds no term
+abbrev pub blank : Term
+blank = record { set = replicate 16 0; coefficient = pos 0 }
 
 -- an operand is light: its coefficients come to less than 2^30 together
 abbrev pub light : List Term → Bool
@@ -47,13 +51,13 @@ product_room one other = length one * length other
 abbrev pub sum_room : List Term → List Term → ℕ
 sum_room one other = length one + length other + length one * length other
 
--- n is the number of terms of the form p, which the first n records hold; from place `reach` on, at or past n, they are as before
+-- n is the number of terms of the form p, which the first n records hold: they are the records of its terms, then come blank ones up to
+-- place `reach`, at or past n, and from there on they are as before
 pub record Held (reach : ℕ) (p : Form) (before after : List Term) (n : ℕ) : Type 0 where
   pub count : n ≡ length p
-  pub within : n ≤ length after
   pub bound : n ≤ reach
   pub form : form_in (take n after) ≡ p
-  pub rest : drop reach after ≡ drop reach before
+  pub records : after ≡ map term_of p ++ (replicate (reach - n) blank ++ drop reach before)
 
 -- refused exactly where it does not fit, and then nothing changes; else the form p is held
 abbrev pub Merged : Bool → ℕ → Form → List Term → List Term → Option ℕ → Type 0

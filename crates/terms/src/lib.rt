@@ -2,6 +2,7 @@
 
 mod addends;
 pub mod adding;
+mod blanking;
 pub mod gates;
 pub mod laws;
 mod merging;

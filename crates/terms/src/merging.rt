@@ -1,8 +1,8 @@
 ghost use Rattle.std.specs.Prelude.{◌≡◌, ◌+◌, ◌-◌, ◌*◌, ◌^◌, ◌<◌, ◌≤◌, ◌++◌, map, length, take, drop, set, unsigned_abs};
 ghost use Rattle.terms.specs.Sets.{number_of};
 ghost use Rattle.terms.specs.Forms.{insert, norm, add_all, scaled, add_product};
-ghost use Rattle.terms.specs.Records.{entry_of, form_in, term_of, Held};
-ghost use Rattle.terms.specs.Editing.{Placed, opened, closed};
+ghost use Rattle.terms.specs.Records.{entry_of, form_in, term_of};
+ghost use Rattle.terms.specs.Editing.{Placed, opened, closed, InFront};
 
 use super::addends::{Multiple, Product};
 use super::sets::{Set, before, join};
@@ -40,7 +40,8 @@ fn close_at(work: &mut [Term], used: usize, i: usize)
 pub(super) fn put_term(work: &mut [Term], used: usize, t: Term) -> usize
     requires room { used < length work.old }
     requires fits { norm (form_in (take used work.old)) + unsigned_abs t.coefficient < 2 ^ 63 }
-    ensures { Held (used + 1) (insert (number_of t.set) t.coefficient (form_in (take used work.old))) work.old work.new result }
+    ensures { InFront (used + 1) (insert (number_of t.set) t.coefficient (form_in (take used work.old)))
+        work.old work.new result }
 {
     let i = place(work, used, &t.set);
     if i < used && !before(&t.set, &work[i].set) {
@@ -64,7 +65,10 @@ impl Multiple<'_> {
     pub(super) fn put_into(&self, work: &mut [Term], used: usize) -> usize
         requires room { used + length self.now.form.now ≤ length work.old }
         requires fits { norm (form_in (take used work.old)) + unsigned_abs self.now.factor * norm (form_in self.now.form.now) < 2 ^ 63 }
-        ensures { Held (used + length self.now.form.now) (add_all (form_in (take used work.old)) (scaled (number_of self.now.set.now) self.now.factor (form_in self.now.form.now))) work.old work.new result }
+        ensures { InFront (used + length self.now.form.now)
+            (add_all (form_in (take used work.old))
+            (scaled (number_of self.now.set.now) self.now.factor (form_in self.now.form.now)))
+            work.old work.new result }
     {
         let mut n = used;
         for u in self.form {
@@ -84,7 +88,10 @@ impl Product<'_> {
         requires room { used + length self.now.one.now * length self.now.other.now ≤ length work.old }
         requires fits { norm (form_in (take used work.old)) + unsigned_abs self.now.factor * norm (form_in self.now.one.now) * norm (form_in self.now.other.now) < 2 ^ 63 }
         requires small { unsigned_abs self.now.factor * norm (form_in self.now.one.now) < 2 ^ 63 }
-        ensures { Held (used + length self.now.one.now * length self.now.other.now) (add_product self.now.factor (form_in (take used work.old)) (form_in self.now.one.now) (form_in self.now.other.now)) work.old work.new result }
+        ensures { InFront (used + length self.now.one.now * length self.now.other.now)
+            (add_product self.now.factor (form_in (take used work.old))
+            (form_in self.now.one.now) (form_in self.now.other.now))
+            work.old work.new result }
     {
         let mut n = used;
         for t in self.one {

@@ -1,4 +1,4 @@
-ghost use Rattle.std.specs.Prelude.{◌≡◌, ◌&&◌, pos, ◌-ℤ◌, if◌then◌else◌, Decides, ◌==◌, unsigned_abs};
+ghost use Rattle.std.specs.Prelude.{◌≡◌, ◌&&◌, pos, ◌-ℤ◌, ◌↔◌, if◌then◌else◌, IsTrue, ◌==◌, unsigned_abs};
 ghost use Rattle.terms.specs.Sets.{number_of};
 ghost use Rattle.terms.specs.Forms.{Rising, high, value, same};
 ghost use Rattle.terms.specs.Laws.{Alike};
@@ -7,7 +7,7 @@ ghost use Rattle.terms.specs.Records.{form_in};
 use super::sets::{Set, all_high, number};
 use super::term::Term;
 
-// What a form comes to in a row of free wire values, given as the set of the high wires.
+/// What a form comes to in a row of free wire values, given as the set of the high wires.
 pub fn value(form: &[Term], row: &Set) -> i128
     ensures { result ≡ value (form_in form.now) (number_of row.now) }
 {
@@ -29,11 +29,12 @@ fn share(t: &Term, row: &Set) -> i64
     }
 }
 
-// Whether two forms have the same terms with the same coefficients; of rising forms, whether they come to the same in every row.
+/// Whether two forms have the same terms with the same coefficients; of rising forms, whether they come to the same in every row.
 pub fn same(one: &[Term], other: &[Term]) -> bool
     ensures exact { result ≡ same (form_in one.now) (form_in other.now) }
-    ensures equal { Decides result (form_in one.now ≡ form_in other.now) }
-    ensures alike { Rising 0 (form_in one.now) → Rising 0 (form_in other.now) → Decides result (Alike (form_in one.now) (form_in other.now)) }
+    ensures equal { IsTrue result ↔ (form_in one.now ≡ form_in other.now) }
+    ensures alike { Rising 0 (form_in one.now) → Rising 0 (form_in other.now) →
+        (IsTrue result ↔ Alike (form_in one.now) (form_in other.now)) }
 {
     matching(one, other)
 }

@@ -19,8 +19,8 @@ front W W' ts n e f = ap form_in (ap (take n) f ∙ take_at ts (drop (length ts)
 summed : (F p q : Form) → F ≡ p → add_all F (scaled 0 (pos 1) q) ≡ add_all p q
 summed F p q e = ap₂ (λ (x y : Form). add_all x y) e (scaled_one q)
 
-pub put_into-requires-clause-fits : goal.put_into-requires-clause-fits
-put_into-requires-clause-fits c =
+pub put_into-len-requires-clause-fits : goal.put_into-len-requires-clause-fits
+put_into-len-requires-clause-fits c =
     let A = c.args.one.now in
     let B = c.args.other.now in
     let k = c.args.factor in
@@ -42,8 +42,8 @@ returns c =
     let N = length A + length B + length A * length B in
     let e = front W W₁ A c.put_form-copied.result c.put_form-copied.ensures.size c.put_form-copied.ensures.whole in
     let f = c.put_into-used.ensures.form ∙ summed _ (form_in A) (form_in B) e in
-    onward (c.put_into-used.result + length A * length B) N c.put_into.result _ _ W₂ c.put_into.new.work W c.put_into.ensures
+    c.blank_behind.ensures _ W (onward (c.put_into-used.result + length A * length B) N c.put_into-len.result _ _ W₂ c.put_into-len.new.work W c.put_into-len.ensures
     (ap₂ (λ (k : ℤ) (x : Form). add_product k x (form_in A) (form_in B)) (to_z-of_z w64 c.args.factor c.ranges.factor) f)
     (omega (arith, c.put_into-used.ensures.bound))
     (drop_later (c.put_form-copied.result + length B) N W₂ W₁ (omega arith) c.put_into-used.ensures.rest
-    ∙ ap (drop N) c.put_form-copied.ensures.whole ∙ drop-append-drop (length A) W A N (omega arith) refl)
+    ∙ ap (drop N) c.put_form-copied.ensures.whole ∙ drop-append-drop (length A) W A N (omega arith) refl))
