@@ -8,7 +8,7 @@ use Rattle.terms.specs.Forms.{Form, norm, keep, insert}
 use Rattle.terms.specs.Records.{entry_of, form_in, term_fits, Merged}
 use Rattle.terms.specs.Sets.{number_of}
 use Rattle.terms.proofs.Norms.{insert_norm}
-use Rattle.terms.proofs.Recorded.{unread}
+use Rattle.terms.proofs.Recorded.{unread, in_front}
 use Rattle.sheet.specs.declared.node.Node.{Node}
 use Rattle.sheet.specs.Nodes.{is_belt}
 use Rattle.flows.specs.Flows.{flow_by, ports_of}
@@ -82,7 +82,7 @@ module _ (s : ℕ) where
       let p = form_in (take c.used c.records) in
       subst (Listed (found_in c + 1) (listed s (sets_in c)) after) (sym v)
       (record {
-        within = m.1.within;
+        within = (in_front _ n _ c.records after m.1).within;
         columns = ap sets_of m.1.form ∙ insert_sets p c.found;
         found = subst Above (sym m.1.form) (insert_above p c.found);
         few = subst (λ q. norm q ≤ norm p + 1) (sym m.1.form) (omega (arith, insert_norm s (pos 1) p));

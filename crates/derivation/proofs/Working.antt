@@ -5,6 +5,7 @@ use Rattle.terms.specs.declared.term.Term.{Term}
 use Rattle.terms.specs.Forms.{Form, and_form, add_product, norm}
 use Rattle.terms.specs.Records.{form_in, light, product_fits, Merged}
 use Rattle.terms.proofs.Norms.{add_product_norm, twice_light}
+use Rattle.terms.proofs.Recorded.{in_front}
 use Rattle.flows.specs.Flows.{Ports, flow_by}
 use Rattle.flows.proofs.Flowing.{and_rises, flow_product}
 
@@ -45,7 +46,7 @@ taken p before after one other used r o e h l n a b f g m v = by o m v
     by None m v = absurd (both_ways (product_fits before used (negsuc 0) one other) m.0 fits)
     by (Some k) m v =
         subst (Formed (add_product (negsuc 0) p (form_in one) (form_in other)) after) (sym v)
-        (record { within = m.1.within; form = m.1.form ∙ ap (λ q. add_product (negsuc 0) q (form_in one) (form_in other)) e })
+        (record { within = (in_front _ k _ before after m.1).within; form = m.1.form ∙ ap (λ q. add_product (negsuc 0) q (form_in one) (form_in other)) e })
 
 -- with the forms that the ports name, it is the flow
 pub flow_formed : (fs : List Form) (p : Ports) (one other records : List Term) (n : ℕ)

@@ -2,7 +2,8 @@
 ghost use Rattle.std.specs.Prelude.{◌≡◌, ◌^◌, ◌<◌, ◌≤◌, [], length, take, slice_index_or};
 ghost use Rattle.sheet.specs.Views.{nodes_in};
 ghost use Rattle.terms.specs.Forms.{and_form, norm};
-ghost use Rattle.terms.specs.Records.{form_in, Held};
+ghost use Rattle.terms.specs.Editing.{InFront};
+ghost use Rattle.terms.specs.Records.{form_in};
 ghost use Rattle.forms.specs.Slots.{forms_in};
 ghost use Rattle.flows.specs.Flows.{flow_by, ports_of};
 ghost use Rattle.derivation.specs.Ports.{ports_in};
@@ -28,8 +29,13 @@ pub(crate) struct Worked<'a> {
 impl Worked<'_> {
     // The form of the entering event, in the first records of `work`: how many terms it has.
     fn entering(&self, ports: Ports, work: &mut Work) -> usize
-        ensures held { Held 624 (and_form (slice_index_or (forms_in self.now.forms.now) ports.offer []) (slice_index_or (forms_in self.now.forms.now) ports.room [])) work.old work.new result }
-        ensures small { norm (and_form (slice_index_or (forms_in self.now.forms.now) ports.offer []) (slice_index_or (forms_in self.now.forms.now) ports.room [])) < 2 ^ 62 }
+        ensures front { let fs = forms_in self.now.forms.now in
+            InFront 624
+              (and_form (slice_index_or fs ports.offer []) (slice_index_or fs ports.room []))
+              work.old work.new result }
+        ensures small { let fs = forms_in self.now.forms.now in
+            norm (and_form (slice_index_or fs ports.offer []) (slice_index_or fs ports.room []))
+              < 2 ^ 62 }
     {
         and_form(
             self.forms.line(ports.offer),

@@ -3,3 +3,4 @@ pub mod Slots
 pub mod Limits
 pub mod Filled
 pub mod Told
+pub mod Numbered

@@ -1,10 +1,8 @@
 -- What forms mean, in words of wires and rows.
-use Rattle.std.specs.Prelude.{◌≡◌, ℕ, Bool, false, List, map, pos, slice_index_or}
+use Rattle.std.specs.Prelude.{◌≡◌, ℕ, Bool, false, List, pos, slice_index_or}
 use Rattle.sheet.specs.declared.node.Node.{Node}
 use Rattle.sheet.specs.Wires.{bit, settled}
-use Rattle.terms.specs.declared.term.Term.{Term}
 use Rattle.terms.specs.Forms.{Form, Rising, value, row_of}
-use Rattle.terms.specs.Records.{term_of}
 
 -- a form counts wire w: its terms rise, its coefficients are nonzero, and in every row of free wire values it comes to 1 where the wire is high and else to 0
 pub record Counts (ns : List Node) (w : ℕ) (p : Form) : Type 0 where
@@ -14,9 +12,3 @@ pub record Counts (ns : List Node) (w : ℕ) (p : Form) : Type 0 where
 -- two wires agree in every row of free wire values
 abbrev pub Agree : List Node → ℕ → ℕ → Type 0
 Agree ns v w = (row : List Bool) → slice_index_or (settled ns row) v false ≡ slice_index_or (settled ns row) w false
-
--- records tell wire w: they hold a form that counts it
-pub record Tells (ns : List Node) (w : ℕ) (records : List Term) : Type 0 where
-  pub form : Form
-  pub held : records ≡ map term_of form
-  pub counts : Counts ns w form

@@ -1,6 +1,7 @@
 ghost use Rattle.std.specs.Prelude.{◌≡◌, ◌≤◌, [], length, if◌then◌else◌, MatchOption, nat_lt, unsigned_abs};
 ghost use Rattle.terms.specs.Forms.{one_form};
-ghost use Rattle.terms.specs.Records.{form_in, Held};
+ghost use Rattle.terms.specs.Records.{form_in};
+ghost use Rattle.terms.specs.Editing.{InFront};
 ghost use Rattle.forms.specs.Gates.{gate_form, large};
 ghost use Rattle.forms.specs.Slots.{slot_forms};
 
@@ -20,7 +21,7 @@ pub(crate) type Work = [Term; WORK];
 
 // How many terms the form of a constant wire has, which the first records of `work` then hold.
 fn constant(high: bool, work: &mut Work) -> usize
-    ensures { Held 624 (if high then one_form else []) work.old work.new result }
+    ensures { InFront 624 (if high then one_form else []) work.old work.new result }
 {
     if !high {
         return 0;
@@ -34,14 +35,15 @@ fn constant(high: bool, work: &mut Work) -> usize
 
 // How many terms the form of a gate has, which the first records of `work` then hold.
 pub(crate) fn work_out(before: &[Slot], gate: Gate, work: &mut Work) -> usize
-    ensures { Held 624 (gate_form (slot_forms before.now) gate) work.old work.new result }
+    ensures { InFront 624 (gate_form (slot_forms before.now) gate) work.old work.new result }
 {
     gate_form(before, gate, work).unwrap_or(0)
 }
 
 // The same, as the calls that merge forms answer it. It is never absent, since each operand has at most 24 terms.
 fn gate_form(before: &[Slot], gate: Gate, work: &mut Work) -> Option<usize>
-    ensures { MatchOption result ⊥ (λ n. Held 624 (gate_form (slot_forms before.now) gate) work.old work.new n) }
+    ensures { MatchOption result ⊥ (λ n.
+        InFront 624 (gate_form (slot_forms before.now) gate) work.old work.new n) }
 {
     match gate {
         Gate::Constant(high) => Some(constant(high, work)),

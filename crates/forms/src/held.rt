@@ -5,7 +5,7 @@ use sheet::limits::MOST_LINES;
 
 pub mod calls;
 
-// The forms of all lines of a sheet, each within the limits: the first `len` of `slots`.
+/// The forms of all lines of a sheet, each within the limits: the first `len` of `slots`.
 #[derive(Drop)]
 pub struct Forms {
     slots: [Slot; MOST_LINES],

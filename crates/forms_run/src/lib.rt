@@ -93,14 +93,18 @@ mod tests {
         assert_eq!(rt; compared(WIDE, 11, 12), (0, 1));
     }
 
-    // Forms print as the terms of each line.
+    // Each line's form by its line, and none past the last.
     #[test]
-    fn forms_print(rt: HostRuntime) -> Result<(), Fail> {
+    fn forms_by_line(rt: HostRuntime) -> Result<(), Fail> {
         let sheet = Sheet::load(b"kind left right\n0 - -\n1 - -\n")?;
+        let forms = Forms::of(&sheet)?;
+        assert_eq!(rt; forms.line(0).len(), 0);
+        assert_eq!(rt; forms.line(1).len(), 1);
         assert_eq!(rt;
-            format!(in rt.alloc(); "{:?}", Forms::of(&sheet)?)?.as_str(),
-            "[[], [Term { set: [0, 0, 0, 0, 0, 0, 0, 0, 0, 0, 0, 0, 0, 0, 0, 0], coefficient: 1 }]]"
+            (forms.line(1)[0].set, forms.line(1)[0].coefficient),
+            ([0; 16], 1)
         );
+        assert_eq!(rt; forms.line(2).len(), 0);
         Ok(())
     }
 }

@@ -1,6 +1,6 @@
 -- Records beside the terms that they hold.
 use Rattle.std.proofs.Common.{◌≡◌, ℕ, suc, ◌+◌, ◌-◌, ◌*◌, ◌^◌, ◌<◌, ◌≤◌, List, [], ◌∷◌, ◌++◌, map, length, get_or, take, drop, replicate, ℤ, pos, nat_abs, sym, refl, ap, ◌∙◌, ap₂, mul-add, arith}
-use Rattle.std.proofs.lemmas.List.{append_assoc, at_drop_more, drop_at, drop-drop, length-append, length-map, length-replicate, length-take-le, map-append, take_at, take_more}
+use Rattle.std.proofs.lemmas.List.{append_assoc, at_drop_more, drop_at, drop-drop, length-append, length-map, length-replicate, length-take-le, map-append, take_more}
 use Rattle.terms.specs.declared.term.Term.{Term}
 use Rattle.terms.specs.Sets.{number_of, bytes_of}
 use Rattle.terms.specs.Forms.{Form, norm}

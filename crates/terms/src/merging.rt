@@ -40,7 +40,8 @@ fn close_at(work: &mut [Term], used: usize, i: usize)
 pub(super) fn put_term(work: &mut [Term], used: usize, t: Term) -> usize
     requires room { used < length work.old }
     requires fits { norm (form_in (take used work.old)) + unsigned_abs t.coefficient < 2 ^ 63 }
-    ensures { InFront (used + 1) (insert (number_of t.set) t.coefficient (form_in (take used work.old)))
+    ensures { InFront (used + 1)
+        (insert (number_of t.set) t.coefficient (form_in (take used work.old)))
         work.old work.new result }
 {
     let i = place(work, used, &t.set);

@@ -1,5 +1,6 @@
-ghost use Rattle.std.specs.Prelude.{◌≡◌, ℕ, ◌+◌, ◌^◌, ◌<◌, ◌≤◌, true, false, [], ◌∷◌, length, take, pos, IfOk, Ok, Err, count_by, MatchResult};
+ghost use Rattle.std.specs.Prelude.{◌≡◌, ℕ, ◌+◌, ◌^◌, ◌<◌, ◌≤◌, true, false, [], ◌∷◌, length, take, pos, IfOk, IfErr, Ok, Err, count_by, MatchResult};
 ghost use Rattle.sheet.specs.Nodes.{is_free};
+ghost use Rattle.sheet.specs.Refusals.{IsOneOf, form_numbers};
 ghost use Rattle.sheet.specs.declared.node.Gate.{Gate as Logic};
 ghost use Rattle.sheet.specs.Views.{nodes_in};
 ghost use Rattle.terms.specs.Records.{form_in};
@@ -78,7 +79,11 @@ impl Filling {
 
 // The forms of all lines, each in its slot, or the first limit that a gate passes.
 pub(crate) fn fill(sheet: &Sheet, slots: &mut [Slot; MOST_LINES]) -> Result<(), Fault>
-    ensures { MatchResult result (λ _. (slot_forms (take (length (nodes_in sheet.now)) slots.new) ≡ forms_of (nodes_in sheet.now)) × ((n : ℕ) × (limits (nodes_in sheet.now) ≡ Ok n))) (λ e. limits (nodes_in sheet.now) ≡ Err e) }
+    ensures exact { let ns = nodes_in sheet.now in
+        MatchResult result
+        (λ _. (slot_forms (take (length ns) slots.new) ≡ forms_of ns) × ((n : ℕ) × (limits ns ≡ Ok n)))
+        (λ e. limits ns ≡ Err e) }
+    ensures numbers { IfErr result (IsOneOf form_numbers) }
 {
     let mut work = [Term::default(); WORK];
     let mut filling = Filling { free: 0, terms: 0 };

@@ -1,4 +1,5 @@
-ghost use Rattle.std.specs.Prelude.{◌≡◌, ◌≤◌, true, [], length, MatchResult, slice_index_or};
+ghost use Rattle.std.specs.Prelude.{◌≡◌, ◌≤◌, true, [], length, IfErr, MatchResult, slice_index_or};
+ghost use Rattle.sheet.specs.Refusals.{IsOneOf, form_numbers};
 ghost use Rattle.sheet.specs.Views.{nodes_in};
 ghost use Rattle.terms.specs.Records.{form_in, light};
 ghost use Rattle.forms.specs.Slots.{forms_in, Allowed, Refused};
@@ -10,13 +11,15 @@ use crate::slot::access::operand;
 use sheet::fault::Fault;
 use sheet::limits::MOST_LINES;
 use sheet::sheet::Sheet;
-use std::fmt::{self, Debug};
 use terms::Term;
 
 impl Forms {
-    // The form of every line of a sheet, or the first limit that a gate passes.
+    /// The form of every line of a sheet, or the first limit that a gate passes.
     pub fn of(sheet: &Sheet) -> Result<Forms, Fault>
-        ensures { MatchResult result (λ f. Allowed (nodes_in sheet.now) (forms_in f)) (Refused (nodes_in sheet.now)) }
+        ensures exact { MatchResult result
+            (λ f. Allowed (nodes_in sheet.now) (forms_in f))
+            (Refused (nodes_in sheet.now)) }
+        ensures numbers { IfErr result (IsOneOf form_numbers) }
     {
         let mut slots = [Slot::none(); MOST_LINES];
         fill(sheet, &mut slots)?;
@@ -26,18 +29,12 @@ impl Forms {
         })
     }
 
-    // The form of a line; past the last line there are no terms.
+    /// The form of a line; past the last line there are no terms.
     pub fn line(&self, line: u16) -> &[Term]
         ensures same { form_in result.now ≡ slice_index_or (forms_in self.now) line [] }
         ensures few { length result.now ≤ 24 }
         ensures easy { light result.now ≡ true }
     {
         operand(&self.slots[..self.len], line)
-    }
-}
-
-impl Debug for Forms {
-    fn fmt<W: fmt::Write>(&self, f: &mut fmt::Formatter<W>) -> fmt::Result {
-        f.debug_list().entries(&self.slots[..self.len]).finish()
     }
 }

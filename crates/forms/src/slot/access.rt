@@ -5,7 +5,6 @@ ghost use Rattle.forms.specs.Gates.{large};
 ghost use Rattle.forms.specs.Slots.{slot_form, slot_forms};
 
 use crate::slot::{MOST_TERMS, Slot};
-use std::fmt::{self, Debug};
 use terms::Term;
 
 impl Slot {
@@ -50,12 +49,6 @@ impl Slot {
         ensures easy { light result.now ≡ true }
     {
         &self.terms[..self.len]
-    }
-}
-
-impl Debug for Slot {
-    fn fmt<W: fmt::Write>(&self, f: &mut fmt::Formatter<W>) -> fmt::Result {
-        f.debug_list().entries(self.form()).finish()
     }
 }
 

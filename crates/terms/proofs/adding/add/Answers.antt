@@ -1,4 +1,4 @@
-use Rattle.std.proofs.Common.{◌≡◌, ℕ, ◌+◌, take, sym, ◌∙◌, subst}
+use Rattle.std.proofs.Common.{take, sym, ◌∙◌, subst}
 use Rattle.terms.specs.Records.{form_in, Held}
 use Rattle.terms.specs.Editing.{InFront}
 use Rattle.terms.proofs.adding.add.Goals as goal

@@ -1,4 +1,4 @@
-use Rattle.std.proofs.Common.{◌≡◌, ◌∙◌, set, ap, subst, length, get_or, cond, ltb, arith}
+use Rattle.std.proofs.Common.{◌≡◌, ◌∙◌, set, ap, subst, get_or, cond, ltb, arith}
 use Rattle.terms.specs.Records.{entry_of, term_of, blank}
 use Rattle.terms.proofs.Over.{over}
 use Rattle.terms.proofs.Recorded.{unread}

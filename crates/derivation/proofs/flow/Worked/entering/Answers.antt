@@ -10,7 +10,7 @@ returns c =
     let other = c.line-2.ensures in
     let same = ap₂ and_form one.same other.same in
     record {
-      held =
+      front =
           surely _ _ _ _ _
           (worked_out and_form (λ a b. a && b) _ _ _ _ _ _ _ c.and_form.ensures (product_room_lem _ _ one.few other.few) (omega arith) one.easy other.easy same)
           c.unwrap_or.ensures;

@@ -9,5 +9,5 @@ returns-clause-form c =
     let one = c.line.ensures in
     let other = c.line-2.ensures in
     let first = c.entering-used.ensures in
-    let t = taken _ _ _ _ _ _ _ _ first.held.form first.held.bound (omega arith) first.small one.few other.few one.easy other.easy c.add_product.ensures c.unwrap_or.ensures in
+    let t = taken _ _ _ _ _ _ _ _ first.front.form first.front.bound (omega arith) first.small one.few other.few one.easy other.easy c.add_product.ensures c.unwrap_or.ensures in
     (flow_formed (forms_in c.args.self.now.forms.now) (ports_in c.args.ports) _ _ _ _ t one.same other.same).form

@@ -10,13 +10,13 @@ returns-in_err-columns c =
     let p = err_from_is_err_and c.from_residual-in_err-columns.result c.from_residual-in_err-columns.ensures.1 in
     let t = c.in_err-columns.ensures in
     rw (p.1, p.2, t.0)
-    (past_columns (nodes_in c.args.sheet.now) (forms_in c.in_ok-forms.forms) c.in_ok-forms.ensures t.1)
+    (past_columns (nodes_in c.args.sheet.now) (forms_in c.in_ok-forms.forms) c.in_ok-forms.ensures.exact t.1)
 
 pub returns : goal.returns
 returns c =
     let ns = nodes_in c.args.sheet.now in
     let fs = forms_in c.in_ok-forms.forms in
-    let allowed = c.in_ok-forms.ensures in
+    let allowed = c.in_ok-forms.ensures.exact in
     let columns = c.in_ok-columns.columns in
     let t = c.in_ok-columns.ensures in
     record {

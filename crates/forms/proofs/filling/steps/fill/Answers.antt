@@ -2,6 +2,7 @@ use Rattle.std.proofs.Common.{◌<◌, length, refl, ap, sym, ◌∙◌, arith, 
 use Rattle.std.proofs.lemmas.Result.{err_from_is_err_and}
 use Rattle.forms.specs.Gates.{limits}
 use Rattle.forms.proofs.Filled.{none_filled, wires_left, place_few, limits_here, filled_on}
+use Rattle.forms.proofs.Numbered.{limit_number}
 use Rattle.forms.proofs.filling.steps.fill.Goals as goal
 
 pub loop-i-init : goal.loop-i-init
@@ -23,7 +24,8 @@ pub returns-in_err-slot : goal.returns-in_err-slot
 returns-in_err-slot c =
     let p = err_from_is_err_and c.from_residual.result c.from_residual.ensures.1 in
     let l : c.loop-i.i < length c.loop-i.slots = omega (arith, c.nodes-node-items.ensures.lawful.lines, c.loop-i.invariant.1) in
-    rw (p.1, p.2) (ap limits (sym c.nodes-node-items.ensures.same) ∙ limits_here c.nodes-node-items.result.now c.loop-i.slots c.loop-i.i _ _ (omega arith) l c.loop-i.invariant.0 _ c.in_err-slot.ensures)
+    let e = ap limits (sym c.nodes-node-items.ensures.same) ∙ limits_here c.nodes-node-items.result.now c.loop-i.slots c.loop-i.i _ _ (omega arith) l c.loop-i.invariant.0 _ c.in_err-slot.ensures in
+    rw (p.1, p.2) (record { exact = e; numbers = limit_number _ _ e })
 
 pub loop-i-preserved : goal.loop-i-preserved
 loop-i-preserved c =
