@@ -1,18 +1,22 @@
 -- From a table and its elimination to what derivation answers and writes.
 use Rattle.std.proofs.Common.{◌≡◌, ℕ, suc, ◌+◌, ◌*◌, ◌<◌, ◌≤◌, Bool, true, false, cond, ltb, List, [], ◌∷◌, ◌++◌, map, length, drop, ℤ, IfOk, Some, None, Ok, Err, count_by, Option, Result, sym, refl, ap, ◌∙◌, subst, ap₂, suc-mul, zero-mul, arith}
+use Rattle.std.specs.Prelude.{Contains, IfErr}
 use Rattle.std.specs.List.{flat_map, AllByRecursion}
 use Rattle.std.proofs.lemmas.List.{append_assoc, append-nil, map-append, length-append, length-map, take_at, drop_at}
 use Rattle.std.proofs.lemmas.List.Folds.{flat_map-map}
 use Rattle.std.proofs.lemmas.Bool.{and_from, le-leb, ltb-false, eq-eqb}
 use Rattle.sheet.specs.declared.node.Node.{Node}
 use Rattle.sheet.specs.declared.fault.Fault.{Fault}
-use Rattle.sheet.specs.declared.fault.Refusal.TheVariants.{ShortWeights, ManyColumns}
-use Rattle.sheet.specs.Nodes.{is_belt}
+use Rattle.sheet.specs.declared.node.Node.TheVariants.{Free, Belt, Gate}
+use Rattle.sheet.specs.declared.fault.Refusal.TheVariants.{ShortWeights, ManyColumns, LongForm, LongForms, LargeCoefficient}
+use Rattle.sheet.specs.Nodes.{is_belt, is_free}
+use Rattle.sheet.specs.Wires.{bit}
 use Rattle.sheet.specs.Outcomes.{Outcome, written}
-use Rattle.sheet.specs.Refusals.{and_then, refuse_if}
+use Rattle.sheet.specs.Refusals.{and_then, refuse_if, IsOneOf, derive_numbers}
+use Rattle.sheet.proofs.Numbers.{Within, then_within, if_within}
 use Rattle.sheet.proofs.Refusals.{ok_err, passed_if}
 use Rattle.terms.specs.Forms.{Form}
-use Rattle.forms.specs.Gates.{limits}
+use Rattle.forms.specs.Gates.{large, together, node_form, limits_from, limits}
 use Rattle.kinds.specs.Kinds.{Kind}
 use Rattle.std.specs.Option.{option_map_or}
 use Rattle.kinds.specs.Elimination.{State, any_past, handled, added, eliminated, eliminate, starts}
@@ -23,9 +27,9 @@ use Rattle.elimination.proofs.Written.{solved_fit}
 use Rattle.flows.specs.Columns.{columns_of, coefficient, table}
 use Rattle.flows.specs.Flows.{flows_of}
 use Rattle.flows.specs.Derivation.{as_written, balances_of, derived, derive}
-use Rattle.flows.specs.Completeness.{Complete, gain}
+use Rattle.flows.specs.Completeness.{Complete, gain, AllLeadAbove}
 use Rattle.flows.proofs.Complete.{CountsZero}
-use Rattle.flows.proofs.Derived.{flows_length, derived_complete}
+use Rattle.flows.proofs.Derived.{flows_length, derived_complete, derived_signed}
 use Rattle.derivation.specs.declared.table.Table.{Table}
 use Rattle.derivation.specs.Tables.{rows_in, tested, tested_first, Tabled, Tabulated, by_belt, Rowed}
 
@@ -159,23 +163,78 @@ module _ (K : Kind) (ns : List Node) (weights : List ℤ) where
           by (Ok ws) f = tt
           by (Err b) f = omega (arith, named_row K (length (columns_of (flows_of ns))) b (map (map K.counts) rows) f, length-map rows (map K.counts), many, t.few)
 
--- what derivation writes is complete
-module _ {K : Kind} {Z : ℤ → Type 0} (C : CountsZero K Z) (ns : List Node) (weights after : List ℤ) where
+-- ---- what derivation writes
+module _ (K : Kind) (ns : List Node) (weights after : List ℤ) where
   abbrev n : ℕ
   n = count_by is_belt ns
 
-  pub complete : (r : Result ℕ Fault) → ◌≡◌ {A = Outcome ℕ ℤ} (record { answer = r; memory = after }) (derive K ns weights) → IfOk r (λ k. Complete Z n (gain ns) (rows_of k n after))
-  complete r e = by (ltb (length weights) (n * n)) (derived K ns) refl (ap (λ o. o.answer) e) (ap (λ o. o.memory) e)
+  -- what holds of derived balances, with a weight for each belt, holds of the balances that are written
+  read_back : (P : List (List ℤ) → Type 0) → ((us : List (List ℤ)) → derived K ns ≡ Ok us → AllByRecursion (λ u. length u ≡ n) us × P us)
+      → (r : Result ℕ Fault) → ◌≡◌ {A = Outcome ℕ ℤ} (record { answer = r; memory = after }) (derive K ns weights) → IfOk r (λ k. P (rows_of k n after))
+  read_back P all r e = by (ltb (length weights) (n * n)) (derived K ns) refl (ap (λ o. o.answer) e) (ap (λ o. o.memory) e)
     where
       by : (short : Bool) (d : Result (List (List ℤ)) Fault) → derived K ns ≡ d
           → r ≡ (written length (flat_map (λ w. w)) (refuse_if short ShortWeights 0 d) weights).answer
           → after ≡ (written length (flat_map (λ w. w)) (refuse_if short ShortWeights 0 d) weights).memory
-          → IfOk r (λ k. Complete Z n (gain ns) (rows_of k n after))
+          → IfOk r (λ k. P (rows_of k n after))
       by true d f g m = rw g tt
       by false (Err x) f g m = rw g tt
       by false (Ok balances) f g m =
-          let all = derived_complete C ns balances f in
-          rw g (subst (Complete Z n (gain ns)) (sym (ap (rows_of (length balances) n) m ∙ rows_back n balances (drop (length (flat_map (λ w. w) balances)) weights) all.sized)) all)
+          let h = all balances f in
+          rw g (subst P (sym (ap (rows_of (length balances) n) m ∙ rows_back n balances (drop (length (flat_map (λ w. w) balances)) weights) h.0)) h.1)
+
+module _ {K : Kind} {Z : ℤ → Type 0} (C : CountsZero K Z) (ns : List Node) (weights after : List ℤ) where
+  -- it is complete
+  pub complete : (r : Result ℕ Fault) → ◌≡◌ {A = Outcome ℕ ℤ} (record { answer = r; memory = after }) (derive K ns weights) → IfOk r (λ k. Complete Z (count_by is_belt ns) (gain ns) (rows_of k (count_by is_belt ns) after))
+  complete = read_back K ns weights after (Complete Z (count_by is_belt ns) (gain ns)) (λ us f. let all = derived_complete C ns us f in (all.sized, all))
+
+  -- and each balance has its first nonzero weight above zero
+  pub signed : (r : Result ℕ Fault) → ◌≡◌ {A = Outcome ℕ ℤ} (record { answer = r; memory = after }) (derive K ns weights) → IfOk r (λ k. AllLeadAbove (rows_of k (count_by is_belt ns) after))
+  signed = read_back K ns weights after AllLeadAbove (λ us f. ((derived_complete C ns us f).sized, derived_signed C ns us f))
+
+-- ---- the numbers with which it may refuse
+module _ (numbers : List ℕ) (long : Contains numbers 15) (together_long : Contains numbers 16) (large_one : Contains numbers 17) where
+  limits_from_within : (sofar k : ℕ) (fs : List Form) (ns : List Node) → Within numbers (limits_from sofar k fs ns)
+  limits_from_within sofar k fs [] = tt
+  limits_from_within sofar k fs (node ∷ ns) =
+      then_within numbers (together sofar (length fs) node (node_form k fs node)) (λ more. limits_from more (k + bit (is_free node)) (fs ++ node_form k fs node ∷ []) ns)
+      (one node (node_form k fs node)) (λ more. limits_from_within more (k + bit (is_free node)) (fs ++ node_form k fs node ∷ []) ns)
+    where
+      one : (node : Node) (p : Form) → Within numbers (together sofar (length fs) node p)
+      one (Free s) p = tt
+      one (Belt o t) p = tt
+      one (Gate g) p =
+          if_within numbers (ltb 24 (length p)) LongForm (length fs) _ long
+          (if_within numbers (ltb 2048 (sofar + length p)) LongForms (length fs) _ together_long
+          (if_within numbers (large p) LargeCoefficient (length fs) (Ok (sofar + length p)) large_one tt))
+
+  limits_within : (ns : List Node) → Within numbers (limits ns)
+  unfolding limits
+  limits_within ns = limits_from_within 0 0 [] ns
+
+module _ (K : Kind) (ns : List Node) (weights after : List ℤ) where
+  as_written_within : (r : Result (List (List K.Num)) ℕ) → Within derive_numbers (as_written K r)
+  as_written_within (Ok ws) = tt
+  as_written_within (Err b) = (5, omega arith, refl)
+
+  balances_within : (flows : List Form) → Within derive_numbers (balances_of K flows)
+  unfolding balances_of
+  balances_within flows =
+      if_within derive_numbers (ltb 256 (length (columns_of flows))) ManyColumns 0 (as_written K (eliminate K (length (columns_of flows)) (map (map K.counts) (table flows)))) (4, omega arith, refl)
+      (as_written_within (eliminate K (length (columns_of flows)) (map (map K.counts) (table flows))))
+
+  answer_within : Within derive_numbers (derive K ns weights).answer
+  answer_within =
+      let d = if_within derive_numbers (ltb (length weights) (count_by is_belt ns * count_by is_belt ns)) ShortWeights 0 (derived K ns) (0, omega arith, refl)
+      (then_within derive_numbers (limits ns) (λ _. balances_of K (flows_of ns)) (limits_within derive_numbers (1, omega arith, refl) (2, omega arith, refl) (3, omega arith, refl) ns) (λ _. balances_within (flows_of ns))) in
+      told (refuse_if (ltb (length weights) (count_by is_belt ns * count_by is_belt ns)) ShortWeights 0 (derived K ns)) d
+    where
+      told : (r : Result (List (List ℤ)) Fault) → Within derive_numbers r → Within derive_numbers (written length (flat_map (λ w. w)) r weights).answer
+      told (Ok us) h = tt
+      told (Err e) h = h
+
+  pub within : (r : Result ℕ Fault) → ◌≡◌ {A = Outcome ℕ ℤ} (record { answer = r; memory = after }) (derive K ns weights) → IfErr r (IsOneOf derive_numbers)
+  within r e = subst (Within derive_numbers) (sym (ap (λ o. o.answer) e)) answer_within
 
 -- an elimination of the rows xs of a sheet's table, as a call has it: what is told and written is derivation's
 module _ (K : Kind) (ns : List Node) (weights : List ℤ) (t : Table) (tab : Tabulated ns (length weights) t)

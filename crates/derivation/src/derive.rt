@@ -1,11 +1,12 @@
-ghost use Rattle.std.specs.Prelude.{◌≡◌, ◌*◌, ◌≤◌, length, IfOk, count_by, MatchResult, nat_lt};
+ghost use Rattle.std.specs.Prelude.{◌≡◌, ◌*◌, ◌≤◌, length, IfOk, IfErr, count_by, MatchResult, nat_lt};
 ghost use Rattle.sheet.specs.Nodes.{is_belt};
+ghost use Rattle.sheet.specs.Refusals.{IsOneOf, derive_numbers};
 ghost use Rattle.sheet.specs.Views.{nodes_in};
 ghost use Rattle.kinds.specs.Kinds.{wholes, parities};
 ghost use Rattle.elimination.specs.Answers.{solved};
 ghost use Rattle.elimination.specs.Memory.{rows_of};
 ghost use Rattle.flows.specs.Derivation.{derive};
-ghost use Rattle.flows.specs.Completeness.{Zero, Even, Complete, gain};
+ghost use Rattle.flows.specs.Completeness.{Zero, Even, Complete, AllLeadAbove, gain};
 ghost use Rattle.derivation.specs.Tables.{Tabulated, Refuses, by_belt, Rowed};
 
 use crate::table::Table;
@@ -15,7 +16,7 @@ use sheet::fault::{Fault, Refusal};
 use sheet::limits::MOST_BELTS;
 use sheet::sheet::Sheet;
 
-// As many balances as belts, with a weight of each belt: so many numbers are never too few.
+/// As many balances as belts, with a weight of each belt: so many numbers are never too few.
 pub const MOST_WEIGHTS: usize = MOST_BELTS * MOST_BELTS;
 
 // Whether so many numbers are too few for as many balances as belts.
@@ -97,19 +98,41 @@ fn derive<K: Derives>(sheet: &Sheet, weights: &mut [i32]) -> Result<usize, Fault
     solve::<K>(sheet, &table, weights)
 }
 
-// Derives the balances of a sheet's belts in whole numbers: writes their weights, belt by belt, one balance after another,
-// and answers how many balances there are. Later numbers stay, and a refusal changes nothing.
+/// Derives the balances of a sheet's belts in whole numbers: writes their weights, belt by belt, one balance after another,
+/// and answers how many balances there are. Later numbers stay, and a refusal changes nothing.
 pub fn derive_whole(sheet: &Sheet, weights: &mut [i32]) -> Result<usize, Fault>
-    ensures exact { record { answer = result; memory = weights.new } ≡ derive wholes (nodes_in sheet.now) weights.old }
-    ensures complete { IfOk result (λ k. Complete Zero (count_by is_belt (nodes_in sheet.now)) (gain (nodes_in sheet.now)) (rows_of k (count_by is_belt (nodes_in sheet.now)) weights.new)) }
+    ensures exact {
+      record { answer = result; memory = weights.new } ≡ derive wholes (nodes_in sheet.now) weights.old
+    }
+    ensures numbers { IfErr result (IsOneOf derive_numbers) }
+    ensures complete {
+      IfOk result (λ k.
+        Complete Zero (count_by is_belt (nodes_in sheet.now)) (gain (nodes_in sheet.now))
+        (rows_of k (count_by is_belt (nodes_in sheet.now)) weights.new))
+    }
+    // the first nonzero weight of each balance is above zero
+    ensures signed {
+      IfOk result (λ k. AllLeadAbove (rows_of k (count_by is_belt (nodes_in sheet.now)) weights.new))
+    }
 {
     derive::<Whole>(sheet, weights)
 }
 
-// The same in parities: 1 is written for an odd weight, 0 for an even one.
+/// The same in parities: 1 is written for an odd weight, 0 for an even one.
 pub fn derive_parity(sheet: &Sheet, weights: &mut [i32]) -> Result<usize, Fault>
-    ensures exact { record { answer = result; memory = weights.new } ≡ derive parities (nodes_in sheet.now) weights.old }
-    ensures complete { IfOk result (λ k. Complete Even (count_by is_belt (nodes_in sheet.now)) (gain (nodes_in sheet.now)) (rows_of k (count_by is_belt (nodes_in sheet.now)) weights.new)) }
+    ensures exact {
+      record { answer = result; memory = weights.new } ≡ derive parities (nodes_in sheet.now) weights.old
+    }
+    ensures numbers { IfErr result (IsOneOf derive_numbers) }
+    ensures complete {
+      IfOk result (λ k.
+        Complete Even (count_by is_belt (nodes_in sheet.now)) (gain (nodes_in sheet.now))
+        (rows_of k (count_by is_belt (nodes_in sheet.now)) weights.new))
+    }
+    // the first nonzero weight of each balance is above zero
+    ensures signed {
+      IfOk result (λ k. AllLeadAbove (rows_of k (count_by is_belt (nodes_in sheet.now)) weights.new))
+    }
 {
     derive::<Parity>(sheet, weights)
 }

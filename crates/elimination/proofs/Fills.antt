@@ -5,7 +5,8 @@ use Rattle.std.proofs.lemmas.List.Folds.{list_any-append}
 use Rattle.std.proofs.Math.Seq.{take-set-lt}
 use Rattle.std.specs.List.{find}
 use Rattle.std.specs.Option.{option_map, option_map_or}
-use Rattle.kinds.specs.Kinds.{Kind}
+use Rattle.kinds.specs.Kinds.{Kind, Lawful, past}
+use Rattle.kinds.proofs.Ring.{neg_mul}
 use Rattle.kinds.specs.Elimination.{less, any_past, leads_below, unit}
 
 module _ (K : Kind) (a c : K.Num) where
@@ -15,14 +16,18 @@ module _ (K : Kind) (a c : K.Num) where
   less_push (z ∷ xs) [] x y e = absurd (omega arith)
   less_push (z ∷ xs) (u ∷ ys) x y e = ap (λ zs. K.add (K.mul a z) (K.neg (K.mul c u)) ∷ zs) (less_push xs ys x y (omega arith))
 
-  pub less_more : {W T : Type 0} (wide : W → K.Num) (value : T → K.Num) (out : List W) (row other : List T) (i : ℕ) (w : W) (x y : T) → i < length out → i < length row → i < length other → x ≡ get_or row i x → y ≡ get_or other i y → wide w ≡ K.add (K.mul a (value x)) (K.neg (K.mul c (value y))) → map wide (take i out) ≡ less K a (map value (take i row)) c (map value (take i other)) → map wide (take (i + 1) (set out i w)) ≡ less K a (map value (take (i + 1) row)) c (map value (take (i + 1) other))
-  less_more wide value out row other i w x y lo lr lk ex ey ew inv =
-      let s = ap (map wide) (take_more_set out i w lo) ∙ map_push wide (take i out) w in
+  pub less_more : {S T : Type 0} (sum : S → K.Num) (value : T → K.Num) (out : List S) (row other : List T) (i : ℕ) (w : S) (x y : T) → i < length out → i < length row → i < length other → x ≡ get_or row i x → y ≡ get_or other i y → sum w ≡ K.add (K.mul a (value x)) (K.neg (K.mul c (value y))) → map sum (take i out) ≡ less K a (map value (take i row)) c (map value (take i other)) → map sum (take (i + 1) (set out i w)) ≡ less K a (map value (take (i + 1) row)) c (map value (take (i + 1) other))
+  less_more sum value out row other i w x y lo lr lk ex ey ew inv =
+      let s = ap (map sum) (take_more_set out i w lo) ∙ map_push sum (take i out) w in
       let b = map_more value row i x lr in
       let d = map_more value other i y lk in
       let n : length (map value (take i row)) ≡ length (map value (take i other)) = simp length-map (omega (arith, length-take-le i row (omega arith), length-take-le i other (omega arith))) in
       let f = less_push (map value (take i row)) (map value (take i other)) (value x) (value y) n in
       cc
+
+-- a x less c y is the sum of a x and (-c) y
+pub sum_less : {K : Kind} (L : Lawful K) {a x c y m p q s : K.Num} → m ≡ K.neg c → p ≡ K.mul a x → q ≡ K.mul m y → s ≡ K.add p q → s ≡ K.add (K.mul a x) (K.neg (K.mul c y))
+sum_less {K} L {a} {x} {c} {y} em ep eq es = es ∙ ap₂ K.add ep (eq ∙ ap (λ u. K.mul u y) em ∙ neg_mul L c y)
 
 -- the first nonzero of the first numbers, as it is found
 pub leads_found : (K : Kind) {X : Type 0} (value : X → K.Num) (n : ℕ) (row : List X) → leads_below K n (map value row) ≡ option_map_or (λ x. K.below (value x)) (find (λ x. not (K.is_zero (value x))) (take n row)) false
@@ -60,12 +65,12 @@ weights_set K value row n b x lt e inv =
     ap (map value) (take-set-lt n row b x lt) ∙ map-set value (take n row) b x ∙ ap₂ (λ zs y. set zs b y) inv e
 
 -- what stands in memory is within the limit
-past_none : (K : Kind) {T : Type 0} (value : T → K.Num) → ((x : T) → K.past (value x) ≡ false) → (xs : List T) → any_past K (map value xs) ≡ false
+past_none : (K : Kind) {T : Type 0} (value : T → K.Num) → ((x : T) → past K (value x) ≡ false) → (xs : List T) → any_past K (map value xs) ≡ false
 past_none K value h [] = refl
 past_none K value h (x ∷ xs) = ap₂ (λ a b. a || b) (h x) (past_none K value h xs)
 
-pub past_behind : (K : Kind) {T : Type 0} (value : T → K.Num) → ((x : T) → K.past (value x) ≡ false) → (row : List T) (front ys : List K.Num) → map value row ≡ front → any_past K (front ++ ys) ≡ any_past K ys
-past_behind K value h row front ys e = list_any-append K.past front ys ∙ ap (λ b. b || any_past K ys) (ap (any_past K) (sym e) ∙ past_none K value h row)
+pub past_behind : (K : Kind) {T : Type 0} (value : T → K.Num) → ((x : T) → past K (value x) ≡ false) → (row : List T) (front ys : List K.Num) → map value row ≡ front → any_past K (front ++ ys) ≡ any_past K ys
+past_behind K value h row front ys e = list_any-append (past K) front ys ∙ ap (λ b. b || any_past K ys) (ap (any_past K) (sym e) ∙ past_none K value h row)
 
 -- one more number is written
 pub written_more : {T N Z : Type 0} (h : N → Z) (f : T → N) (xs : List T) (old ws : List Z) (at i : ℕ) (x : T) (v : Z) → i < length xs → at + i < length old → x ≡ get_or xs i x → v ≡ h (f x) → ws ≡ take at old ++ (map h (map f (take i xs)) ++ drop (at + i) old)

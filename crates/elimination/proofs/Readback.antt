@@ -6,7 +6,7 @@ use Rattle.std.proofs.ByRecursion.{All-weaker}
 use Rattle.kinds.specs.Kinds.{Kind, Lawful}
 use Rattle.kinds.specs.Elimination.{any_past}
 use Rattle.kinds.specs.Completeness.{Vanishes, Made}
-use Rattle.kinds.proofs.Arrival.{sound, exactly, shaped}
+use Rattle.kinds.proofs.Arrival.{sound, exactly, shaped, signed}
 use Rattle.elimination.specs.Memory.{rows_of}
 use Rattle.elimination.specs.Answers.{sizes_fit, balances_of, answered, solved, Exact}
 use Rattle.elimination.proofs.Keeping.{counts_back}
@@ -69,6 +69,7 @@ module _ {K : Kind} (L : Lawful K) (n m : ℕ) (xs old : List ℤ) where
       record {
         few = omega (arith, s.1, size, length_rows n k (map K.counts new));
         small = All-weaker (λ w. (length w ≡ length fs) × (any_past K w ≡ false)) (λ w. any_past K w ≡ false) (λ w h. h.1) ws s.0;
+        signed = signed L m fs ws b.1;
         sound = sound L m fs ws b.1;
         exactly = λ w. subst (λ z. Vanishes K m fs w ↔ Made K z ws w) size (exactly L m fs ws b.1 w);
       }

@@ -3,7 +3,7 @@ use Rattle.std.specs.Prelude.{◌≡◌, ℕ, ◌*◌, ◌≤◌, Bool, false, c
 use Rattle.std.specs.List.{flat_map, AllByRecursion}
 use Rattle.kinds.specs.Kinds.{Kind}
 use Rattle.kinds.specs.Elimination.{at, any_past, eliminate}
-use Rattle.kinds.specs.Completeness.{Vanishes, Made}
+use Rattle.kinds.specs.Completeness.{LeadsAbove, Vanishes, Made}
 use Rattle.elimination.specs.Memory.{rows_of}
 use Rattle.elimination.specs.declared.solve.EliminationError.{EliminationError}
 use Rattle.elimination.specs.declared.solve.EliminationError.TheVariants.{Sizes, LargeNumber}
@@ -26,10 +26,11 @@ solved K n m xs weights =
     let go = answered K weights (balances_of K n m xs) in
     cond (sizes_fit n m (length xs) (length weights)) go (Err Sizes, weights)
 
--- what n rows of m coefficients xs leave in memory: k balances, no more than rows, each within the limit and zero in every
--- column; a weighting comes to zero in every column exactly when a nonzero multiple of it is a sum of multiples of them
+-- what n rows of m coefficients xs leave in memory: k balances, no more than rows, each within the limit, with its first
+-- nonzero weight above zero, and zero in every column; a weighting comes to zero in every column exactly when a nonzero multiple of it is a sum of multiples of them
 pub record Exact (K : Kind) (n m : ℕ) (xs : List ℤ) (k : ℕ) (weights : List ℤ) : Type 0 where
   pub few : k ≤ n
   pub small : AllByRecursion (λ w. any_past K w ≡ false) (rows_of k n (map K.counts weights))
+  pub signed : AllByRecursion (LeadsAbove K) (rows_of k n (map K.counts weights))
   pub sound : AllByRecursion (λ w. Vanishes K m (rows_of n m (map K.counts xs)) (at K w)) (rows_of k n (map K.counts weights))
   pub exactly : (w : ℕ → K.Num) → Vanishes K m (rows_of n m (map K.counts xs)) w ↔ Made K n (rows_of k n (map K.counts weights)) w

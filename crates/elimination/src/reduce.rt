@@ -30,32 +30,32 @@ impl<'a, T: Number> Kept<'a, T> {
 // One step at place t.
 fn step<T: Number>(
     row: &mut [T],
-    wide_row: &mut [T::Wide],
+    sums: &mut [T::Sum],
     other: &[T],
     t: usize,
 ) -> Result<(), PastLimit>
-    requires room { length wide_row.old ≡ length row.old }
+    requires room { length sums.old ≡ length row.old }
     requires alike { length other.now ≡ length row.old }
     requires inside { t < length row.old }
     ensures stored { OnOk result ((any_past T.kind (stepped T.kind (at T.kind (map T.value row.old) t) (at T.kind (map T.value other.now) t) (map T.value row.old) (map T.value other.now)) ≡ false) × (map T.value row.new ≡ stepped T.kind (at T.kind (map T.value row.old) t) (at T.kind (map T.value other.now) t) (map T.value row.old) (map T.value other.now))) }
     ensures past { OnErr result (any_past T.kind (stepped T.kind (at T.kind (map T.value row.old) t) (at T.kind (map T.value other.now) t) (map T.value row.old) (map T.value other.now)) ≡ true) }
 {
     let (c, p) = T::lowest(row[t], other[t]);
-    combine_row(wide_row, p, row, c, other);
-    let d = row_divisor::<T>(wide_row);
-    divide_row::<T>(wide_row, d);
-    store_row(row, wide_row)
+    combine_row(sums, p, row, c, other);
+    let d = row_divisor::<T>(sums);
+    divide_row::<T>(sums, d);
+    store_row(row, sums)
 }
 
 // The row of n weights loses, column by column, what kept rows can take from it. The answer is the column of its lowest
 // term, absent where it has none. Its sign is not yet looked at.
 fn reduce<T: Number>(
     row: &mut [T],
-    wide_row: &mut [T::Wide],
+    sums: &mut [T::Sum],
     kept: &Kept<T>,
     n: usize,
 ) -> Result<Option<usize>, PastLimit>
-    requires room { length wide_row.old ≡ length row.old }
+    requires room { length sums.old ≡ length row.old }
     requires alike { kept.now.size ≡ length row.old }
     requires inside { n ≤ length row.old }
     ensures { MatchResult result (λ lead. IfSome lead (λ j. j < length row.old - n) × (told T.kind lead (negated_if T.kind (ends_below T.kind n lead (map T.value row.new)) (map T.value row.new)) ≡ handled T.kind n (kept_in T.value kept.now) (length row.old - n) 0 (map T.value row.old))) (λ e. passes ≡ handled T.kind n (kept_in T.value kept.now) (length row.old - n) 0 (map T.value row.old)) }
@@ -67,7 +67,7 @@ fn reduce<T: Number>(
         let Some(other) = kept.led_by(j) else {
             return Ok(Some(j));
         };
-        step(row, wide_row, other, n + j)?;
+        step(row, sums, other, n + j)?;
     }
     Ok(None)
 }
@@ -87,16 +87,16 @@ fn ends_below<T: Number>(row: &[T], n: usize, lead: Option<usize>) -> bool
 // What becomes of a row of n weights, with its sign: the column of its lowest term, absent for a balance.
 pub(crate) fn handle<T: Number>(
     row: &mut [T],
-    wide_row: &mut [T::Wide],
+    sums: &mut [T::Sum],
     kept: &Kept<T>,
     n: usize,
 ) -> Result<Option<usize>, PastLimit>
-    requires room { length wide_row.old ≡ length row.old }
+    requires room { length sums.old ≡ length row.old }
     requires alike { kept.now.size ≡ length row.old }
     requires inside { n ≤ length row.old }
     ensures { MatchResult result (λ lead. told T.kind lead (map T.value row.new) ≡ handled T.kind n (kept_in T.value kept.now) (length row.old - n) 0 (map T.value row.old)) (λ e. passes ≡ handled T.kind n (kept_in T.value kept.now) (length row.old - n) 0 (map T.value row.old)) }
 {
-    let lead = reduce(row, wide_row, kept, n)?;
+    let lead = reduce(row, sums, kept, n)?;
     let below = ends_below(row, n, lead);
     negate_when(row, below);
     Ok(lead)

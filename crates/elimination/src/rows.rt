@@ -53,25 +53,26 @@ pub(crate) fn start_row<T: Number>(
 }
 
 // Each number of `out` becomes a times that of `row` less c times that of `other`.
-pub(crate) fn combine_row<T: Number>(out: &mut [T::Wide], a: T, row: &[T], c: T, other: &[T])
+pub(crate) fn combine_row<T: Number>(out: &mut [T::Sum], a: T, row: &[T], c: T, other: &[T])
     requires long { length row.now ≡ length out.old }
     requires alike { length other.now ≡ length out.old }
-    ensures { map T.wide out.new ≡ less T.kind (T.value a) (map T.value row.now) (T.value c) (map T.value other.now) }
+    ensures { map T.sum out.new ≡ less T.kind (T.value a) (map T.value row.now) (T.value c) (map T.value other.now) }
 {
+    let minus_c = c.negated();
     for (i, x) in row.iter().enumerate() {
-        out[i] = T::combined(a, *x, c, other[i]);
+        out[i] = T::plus(a.times(*x), minus_c.times(other[i]));
     }
 }
 
 // The divisor of all the numbers of a row.
-pub(crate) fn row_divisor<T: Number>(row: &[T::Wide]) -> T::Wide
-    ensures { T.wide result ≡ divisor_from T.kind T.kind.zero (map T.wide row.now) }
+pub(crate) fn row_divisor<T: Number>(row: &[T::Sum]) -> T::Sum
+    ensures { T.sum result ≡ divisor_from T.kind T.kind.zero (map T.sum row.now) }
 {
-    row.iter().fold(T::wide_zero(), |d, x| T::divisor(d, *x))
+    row.iter().fold(T::zero_sum(), |d, x| T::divisor(d, *x))
 }
 
-pub(crate) fn divide_row<T: Number>(row: &mut [T::Wide], d: T::Wide)
-    ensures { map T.wide row.new ≡ over T.kind (T.wide d) (map T.wide row.old) }
+pub(crate) fn divide_row<T: Number>(row: &mut [T::Sum], d: T::Sum)
+    ensures { map T.sum row.new ≡ over T.kind (T.sum d) (map T.sum row.old) }
 {
     for x in row.iter_mut() {
         *x = T::quotient(*x, d);
@@ -79,10 +80,10 @@ pub(crate) fn divide_row<T: Number>(row: &mut [T::Wide], d: T::Wide)
 }
 
 // Stores the row.
-pub(crate) fn store_row<T: Number>(row: &mut [T], from: &[T::Wide]) -> Result<(), PastLimit>
+pub(crate) fn store_row<T: Number>(row: &mut [T], from: &[T::Sum]) -> Result<(), PastLimit>
     requires { length from.now ≡ length row.old }
-    ensures stored { OnOk result ((any_past T.kind (map T.wide from.now) ≡ false) × (map T.value row.new ≡ map T.wide from.now)) }
-    ensures past { OnErr result (any_past T.kind (map T.wide from.now) ≡ true) }
+    ensures stored { OnOk result ((any_past T.kind (map T.sum from.now) ≡ false) × (map T.value row.new ≡ map T.sum from.now)) }
+    ensures past { OnErr result (any_past T.kind (map T.sum from.now) ≡ true) }
 {
     for (i, w) in from.iter().enumerate() {
         row[i] = T::narrowed(*w).ok_or(PastLimit)?;

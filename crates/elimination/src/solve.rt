@@ -69,23 +69,23 @@ impl<'a> Table<'a> {
 fn eliminate<T: Number>(
     table: &Table,
     cells: &mut [T],
-    wide_row: &mut [T::Wide],
+    sums: &mut [T::Sum],
 ) -> Result<Filed, EliminationError>
     requires cells { 9504 ≤ length cells.old }
-    requires wide { 288 ≤ length wide_row.old }
+    requires sums { 288 ≤ length sums.old }
     ensures { MatchResult result (λ f. (f.found ≤ table.now.n) × AsWritten T.kind table.now.n f × (balances_of T.kind table.now.n table.now.m table.now.coefficients.now ≡ Ok (rows_of f.found table.now.n (map T.kind.counts f.weights)))) (λ e. (b : ℕ) × (e ≡ LargeNumber b) × (balances_of T.kind table.now.n table.now.m table.now.coefficients.now ≡ Err b)) }
 {
     let size = table.n + table.m;
     let (row, rows) = cells.split_at_mut(SIZE);
     let row = &mut row[0..size];
-    let wide_row = &mut wide_row[0..size];
+    let sums = &mut sums[0..size];
     let mut filed = Filed::new();
     for b in 0..table.n {
         let large = EliminationError::LargeNumber(b);
         start_row(row, table.n, b, table.row(b)).or(Err(large))?;
         let leads = &filed.leads[0..filed.used];
         let kept = Kept { size, leads, rows };
-        let lead = handle(row, wide_row, &kept, table.n).or(Err(large))?;
+        let lead = handle(row, sums, &kept, table.n).or(Err(large))?;
         filed.keep(lead, row, table.n, rows);
     }
     Ok(filed)
@@ -107,15 +107,15 @@ fn solve<T: Number>(
     coefficients: &[i64],
     weights: &mut [i32],
     cells: &mut [T],
-    wide_row: &mut [T::Wide],
+    sums: &mut [T::Sum],
 ) -> Result<usize, EliminationError>
     requires cells { 9504 ≤ length cells.old }
-    requires wide { 288 ≤ length wide_row.old }
+    requires sums { 288 ≤ length sums.old }
     ensures result { (result, weights.new) ≡ solved T.kind n m coefficients.now weights.old }
     ensures exact { IfOk result (λ k. Exact T.kind n m coefficients.now k weights.new) }
 {
     let table = Table::fitting(n, m, coefficients, weights.len())?;
-    let filed = eliminate(&table, cells, wide_row)?;
+    let filed = eliminate(&table, cells, sums)?;
     write_front(weights, &filed.weights, filed.found * n);
     Ok(filed.found)
 }
@@ -132,8 +132,8 @@ pub fn eliminate_whole(
     ensures exact { IfOk result (λ k. Exact wholes n m coefficients.now k weights.new) }
 {
     let mut cells = [Whole::zero(); CELLS];
-    let mut wide_row = [Whole::wide_zero(); SIZE];
-    solve(n, m, coefficients, weights, &mut cells, &mut wide_row)
+    let mut sums = [Whole::zero_sum(); SIZE];
+    solve(n, m, coefficients, weights, &mut cells, &mut sums)
 }
 
 // The same in parities, where 1 is written for an odd weight and 0 for an even one.
@@ -147,6 +147,6 @@ pub fn eliminate_parity(
     ensures exact { IfOk result (λ k. Exact parities n m coefficients.now k weights.new) }
 {
     let mut cells = [Parity::zero(); CELLS];
-    let mut wide_row = [Parity::wide_zero(); SIZE];
-    solve(n, m, coefficients, weights, &mut cells, &mut wide_row)
+    let mut sums = [Parity::zero_sum(); SIZE];
+    solve(n, m, coefficients, weights, &mut cells, &mut sums)
 }

@@ -10,15 +10,15 @@ use Rattle.sheet.specs.Refusals.{refuse_if}
 use Rattle.sheet.proofs.Refusals.{ok_err}
 use Rattle.terms.specs.Forms.{Form, value, row_of}
 use Rattle.terms.proofs.Canon.{some_row}
-use Rattle.kinds.specs.Kinds.{Kind, Lawful}
+use Rattle.kinds.specs.Kinds.{Kind, Lawful, past, wholes}
 use Rattle.kinds.specs.Elimination.{at, any_past, eliminate}
-use Rattle.kinds.specs.Completeness.{comb, Vanishes, Made as MadeIn}
+use Rattle.kinds.specs.Completeness.{comb, Vanishes, Made as MadeIn, LeadsAbove}
 use Rattle.kinds.proofs.Ring.{zero_add, counts_zero, counts_neg, neg_unique, neg_neg}
 use Rattle.kinds.proofs.Comb.{comb_same}
-use Rattle.kinds.proofs.Arrival.{sound, exactly, shaped}
+use Rattle.kinds.proofs.Arrival.{sound, exactly, shaped, signed}
 use Rattle.flows.specs.Columns.{columns_of, coefficient, table}
 use Rattle.flows.specs.Derivation.{as_written, balances_of}
-use Rattle.flows.specs.Completeness.{comes_to, weighting, StaysZero, Made, Complete, Counting, BalancesAreComplete}
+use Rattle.flows.specs.Completeness.{comes_to, weighting, StaysZero, Made, Complete, Counting, BalancesAreComplete, AllLeadAbove}
 use Rattle.flows.proofs.Listed.{Climbs, Covered, columns_climb, columns_cover}
 use Rattle.flows.proofs.Spread.{spread, Ideal, spread_from, spread_back, spread_sum, spread_scale, spread_none, value_spread}
 
@@ -82,8 +82,10 @@ pub record CountsZero (K : Kind) (Z : ℤ → Type 0) : Type 0 where
   pub lawful : Lawful K
   -- Z says of a whole number that it counts zero
   pub means : (x : ℤ) → Z x ↔ (K.counts x ≡ K.zero)
+  -- a first nonzero number above zero is written so
+  pub above : (w : List K.Num) → LeadsAbove K w → LeadsAbove wholes (map K.writes w)
   -- a number within the limit is written within 1,000,000 either way
-  pub small : (x : K.Num) → K.past x ≡ false → nat_abs (K.writes x) ≤ 1000000
+  pub small : (x : K.Num) → past K x ≡ false → nat_abs (K.writes x) ≤ 1000000
 
 module _ {K : Kind} {Z : ℤ → Type 0} (C : CountsZero K Z) where
   open K use {Num as A, zero as 𝟘, add as ◌⊕◌, mul as ◌⊗◌, neg as ⊖◌, counts, writes}
@@ -193,7 +195,7 @@ module _ {K : Kind} {Z : ℤ → Type 0} (C : CountsZero K Z) where
 
       small_row : (u : List A) → any_past K u ≡ false → AllByRecursion (λ x. nat_abs x ≤ 1000000) (map writes u)
       small_row [] h = tt
-      small_row (x ∷ u) h = let p = or_parts (K.past x) (any_past K u) h in (C.small x p.0, small_row u p.1)
+      small_row (x ∷ u) h = let p = or_parts (past K x) (any_past K u) h in (C.small x p.0, small_row u p.1)
 
       complete_of : Complete Z (length flows) gains us
       complete_of =
@@ -213,3 +215,10 @@ module _ {K : Kind} {Z : ℤ → Type 0} (C : CountsZero K Z) where
   balances_complete flows gains count balances e =
       let f = balances_found K flows balances e in
       subst (Complete Z (length flows) gains) (sym f.written) (complete_of flows gains count f.weights f.eliminates)
+
+  -- and the first nonzero weight of each is above zero
+  pub balances_signed : (flows : List Form) (balances : List (List ℤ)) → balances_of K flows ≡ Ok balances → AllLeadAbove balances
+  balances_signed flows balances e =
+      let f = balances_found K flows balances e in
+      subst AllLeadAbove (sym f.written)
+      (All-map _ (map writes) f.weights (All-weaker _ _ C.above f.weights (signed L (length (columns_of flows)) (map (map counts) (table flows)) f.weights f.eliminates)))

@@ -4,7 +4,8 @@ use Rattle.std.specs.List.{AllByRecursion}
 use Rattle.sheet.specs.declared.node.Node.{Node}
 use Rattle.sheet.specs.Wires.{bit, row_enters, row_leaves}
 use Rattle.terms.specs.Forms.{Form, value, row_of}
-use Rattle.kinds.specs.Kinds.{Kind}
+use Rattle.kinds.specs.Kinds.{Kind, wholes}
+use Rattle.kinds.specs.Completeness.{LeadsAbove}
 use Rattle.flows.specs.Derivation.{balances_of}
 
 -- what counts as zero: zero among whole numbers, an even number among parities
@@ -65,3 +66,7 @@ abbrev pub BalancesAreComplete : Kind → (ℤ → Type 0) → Type 0
 BalancesAreComplete K Z =
     (flows : List Form) (gains : List Bool → ℕ → ℤ) → Counting flows gains
     → (balances : List (List ℤ)) → balances_of K flows ≡ Ok balances → Complete Z (length flows) gains balances
+
+-- the first nonzero weight of each balance, as it is written, is above zero
+abbrev pub AllLeadAbove : List (List ℤ) → Type 0
+AllLeadAbove = AllByRecursion (LeadsAbove wholes)

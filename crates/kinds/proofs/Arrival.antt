@@ -6,13 +6,13 @@ use Rattle.std.proofs.lemmas.List.{append_assoc, append-nil}
 use Rattle.std.specs.Option.{option_map_or, is_none}
 use Rattle.kinds.specs.Kinds.{Kind, Lawful}
 use Rattle.kinds.specs.Elimination.{kept_under, at, starts, Handled, kept, balance, passes, any_past, stepped, negated_if, handled, added, eliminated, eliminate}
-use Rattle.kinds.specs.Completeness.{Sound, Exactly, Shaped, StepsClear}
+use Rattle.kinds.specs.Completeness.{Sound, Exactly, Shaped, Signed, StepsClear}
 use Rattle.kinds.proofs.Filing.{put, with_balance, by_case, filed_handled, filed_eliminated, filed_eliminate}
-use Rattle.kinds.proofs.Ring.{found_nonzero, neg_zero, neg_neg, mul_zero}
-use Rattle.kinds.proofs.Comb.{at_negated}
+use Rattle.kinds.proofs.Ring.{found_nonzero, nonzero_found, mul_zero}
+use Rattle.kinds.proofs.Handling.{signed_nonzero}
 use Rattle.kinds.proofs.Filed.{put_same, put_other}
 use Rattle.kinds.proofs.Division.{step, step_clears}
-use Rattle.kinds.proofs.Finding.{filed_sound, filed_exactly}
+use Rattle.kinds.proofs.Finding.{filed_sound, filed_exactly, filed_signed}
 use Rattle.kinds.proofs.Shape.{filed_shaped}
 
 -- one row more at the end
@@ -32,17 +32,6 @@ module _ {K : Kind} (L : Lawful K) where
   open K use {Num as A, zero as 𝟘, is_zero, neg as ⊖◌, below}
 
   infix 8 ⊖◌
-  not_zero : (x : A) → x ≢ 𝟘 → is_zero x ≡ false
-  not_zero x h = go (is_zero x) refl
-    where
-      go : (b : Bool) → is_zero x ≡ b → is_zero x ≡ false
-      go true e = absurd (h (L.found_zero x e))
-      go false e = e
-
-  signed_stays : (b : Bool) (r : List A) (i : ℕ) → at K r i ≢ 𝟘 → at K (negated_if K b r) i ≢ 𝟘
-  signed_stays true r i h e = h (sym (neg_neg L (at K r i)) ∙ ap (λ x. ⊖ x) (sym (at_negated L r i) ∙ e) ∙ neg_zero L)
-  signed_stays false r i h e = h e
-
   -- what is found under j, and what is filed there
   abbrev Match : ℕ → ℕ → Option (List A) → List A → Type 0
   Match n j None s = s ≡ []
@@ -60,7 +49,7 @@ module _ {K : Kind} (L : Lawful K) where
   inner n j c r X f g h (Some u) s m =
       subst (λ v. cond (is_zero (at K v (n + j))) X (cond (any_past K (stepped K c (at K v (n + j)) r v)) passes (f (stepped K c (at K v (n + j)) r v))) ≡ cond (any_past K (stepped K c (at K u (n + j)) r u)) passes (g (stepped K c (at K u (n + j)) r u)))
       (sym m.0)
-      (cond-false (is_zero (at K u (n + j))) X (cond (any_past K (stepped K c (at K u (n + j)) r u)) passes (f (stepped K c (at K u (n + j)) r u))) (not_zero (at K u (n + j)) m.1)
+      (cond-false (is_zero (at K u (n + j))) X (cond (any_past K (stepped K c (at K u (n + j)) r u)) passes (f (stepped K c (at K u (n + j)) r u))) (nonzero_found L (at K u (n + j)) m.1)
       ∙ ap (λ y. cond (any_past K (stepped K c (at K u (n + j)) r u)) passes y) (h (stepped K c (at K u (n + j)) r u)))
 
   same_row : (n : ℕ) (filed : List (List A)) (rows : List (ℕ × List A)) → Matches n filed rows → (columns j : ℕ) (r : List A) → filed_handled K n filed columns j r ≡ handled K n rows columns j r
@@ -84,7 +73,7 @@ module _ {K : Kind} (L : Lawful K) where
     where
       by_option : ((q : List A) → Good n rows (handled K n rows columns (suc j) q)) → is_zero (at K r (n + j)) ≡ false → (o : Option (List A)) → kept_under rows j ≡ o
           → Good n rows (option_map_or (λ s. cond (any_past K (stepped K (at K r (n + j)) (at K s (n + j)) r s)) passes (handled K n rows columns (suc j) (stepped K (at K r (n + j)) (at K s (n + j)) r s))) o (kept j (negated_if K (below (at K r (n + j))) r)))
-      by_option ih nz None e = (e, signed_stays (below (at K r (n + j))) r (n + j) (found_nonzero L (at K r (n + j)) nz))
+      by_option ih nz None e = (e, signed_nonzero L (below (at K r (n + j))) r (n + j) (found_nonzero L (at K r (n + j)) nz))
       by_option ih nz (Some s) e =
           cond_both (any_past K (stepped K (at K r (n + j)) (at K s (n + j)) r s)) passes (handled K n rows columns (suc j) (stepped K (at K r (n + j)) (at K s (n + j)) r s)) (Good n rows)
           (λ _. tt) (λ _. ih (stepped K (at K r (n + j)) (at K s (n + j)) r s))
@@ -157,6 +146,9 @@ module _ {K : Kind} (L : Lawful K) where
 
   pub shaped : Shaped K
   shaped m fs ws all e = filed_shaped L m fs ws all (sym (same m fs) ∙ e)
+
+  pub signed : Signed K
+  signed m fs ws e = filed_signed L m fs ws (sym (same m fs) ∙ e)
 
   pub steps_clear : StepsClear K
   steps_clear r s i h =

@@ -24,7 +24,7 @@ module _ {K : Kind} (L : Lawful K) where
   slot_before n j i s (inr k) h = k.1 i h
 
   -- rows that all have zero at a place
-  comb_at_zero : (m : ℕ → A) (rows : List (List A)) (i : ℕ) → ((k : ℕ) → at K (get_or rows k []) i ≡ 𝟘) → comb K m rows i ≡ 𝟘
+  pub comb_at_zero : (m : ℕ → A) (rows : List (List A)) (i : ℕ) → ((k : ℕ) → at K (get_or rows k []) i ≡ 𝟘) → comb K m rows i ≡ 𝟘
   comb_at_zero m [] i h = refl
   comb_at_zero m (r ∷ rows) i h =
       ap (λ x. (m zero ⊗ x) ⊕ comb K (λ j. m (suc j)) rows i) (h zero) ∙ zero_more L _ _ ∙ comb_at_zero (λ j. m (suc j)) rows i (λ k. h (suc k))

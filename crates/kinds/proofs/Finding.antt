@@ -2,14 +2,15 @@
 use Rattle.std.proofs.Common.{◌≡◌, ℕ, zero, suc, ◌+◌, ◌<◌, ◌≤◌, Bool, true, false, cond, ◌≢◌, ◌↔◌, List, [], ◌∷◌, ◌++◌, length, get_or, take, replicate, Ok, Err, Result, sym, refl, ap, ◌∙◌, subst, ap₂, inl, inr, arith}
 use native.Mathlib.Nat as NatL
 use Rattle.std.specs.List.{AllByRecursion}
+use Rattle.std.proofs.lemmas.Bool.{cond-true, cond-false}
 use Rattle.std.proofs.lemmas.List.{get_or-take}
 use Rattle.kinds.specs.Kinds.{Kind, Lawful}
-use Rattle.kinds.specs.Elimination.{at, unit, starts, any_past, Handled, kept, balance, passes}
+use Rattle.kinds.specs.Elimination.{at, unit, starts, any_past, leads_below, Handled, kept, balance, passes}
 use Rattle.kinds.proofs.Filing.{put, filed_handled, by_case, with_balance, filed_eliminated, filed_eliminate}
-use Rattle.kinds.specs.Completeness.{comb, Vanishes, Made}
-use Rattle.kinds.proofs.Ring.{add_left_comm, mul_left_comm, zero_add, one_mul, mul_zero, zero_more, none_more, mul_nonzero}
+use Rattle.kinds.specs.Completeness.{comb, Vanishes, Made, LeadsAbove}
+use Rattle.kinds.proofs.Ring.{add_left_comm, mul_left_comm, zero_add, one_mul, mul_zero, zero_mul, zero_more, none_more, zero_or, nonzero_found, mul_nonzero}
 use Rattle.kinds.proofs.Comb.{comb_lin, comb_none, comb_same, Span, span_zero, span_lin, span_put, first}
-use Rattle.kinds.proofs.Filed.{Slot, Filed, independent, put_all, put_length}
+use Rattle.kinds.proofs.Filed.{Slot, Filed, comb_at_zero, independent, put_all, put_length}
 use Rattle.kinds.proofs.Handling.{Reached, Law, Good, Told, told}
 
 -- ---- the starting rows
@@ -89,7 +90,7 @@ pub data Run (K : Kind) (n m : ℕ) (fs : List (List K.Num)) : List (List K.Num)
   keeps : {rows rs ws : List (List K.Num)} {r : List K.Num} (j : ℕ) (q : List K.Num)
       → Reached K rows r q → get_or rows j [] ≡ [] → Run K n m fs (put rows j q) rs ws → Run K n m fs rows (r ∷ rs) ws
   finds : {rows rs ws : List (List K.Num)} {r : List K.Num} (q : List K.Num)
-      → Reached K rows r q → ((i : ℕ) → i < m → at K q (n + i) ≡ K.zero) → Law K n fs q → Run K n m fs rows rs ws → Run K n m fs rows (r ∷ rs) (take n q ∷ ws)
+      → Reached K rows r q → ((i : ℕ) → i < m → at K q (n + i) ≡ K.zero) → leads_below K n q ≡ false → Law K n fs q → Run K n m fs rows rs ws → Run K n m fs rows (r ∷ rs) (take n q ∷ ws)
 
 module _ {K : Kind} (L : Lawful K) (n m : ℕ) (fs : List (List K.Num)) where
   open K use {Num as A, zero as 𝟘, one as 𝟙}
@@ -119,15 +120,15 @@ module _ {K : Kind} (L : Lawful K) (n m : ℕ) (fs : List (List K.Num)) where
   unfolding filed_eliminated
   run_step r rs ih rows b ws filed laws short all e = past_or (any_past K r) e
     where
-      with_or : (q : List A) (a : Result (List (List A)) ℕ) → ((xs : List (List A)) → a ≡ Ok xs → Run K n m fs rows rs xs) → Good K n fs rows r q → ((i : ℕ) → i < m → at K q (n + i) ≡ 𝟘) → with_balance (take n q) a ≡ Ok ws → Run K n m fs rows (r ∷ rs) ws
-      with_or q (Ok xs) f g z e = subst (λ x. Run K n m fs rows (r ∷ rs) x) (same_list e) (finds q g.reached z (g.law all.0) (f xs refl))
-      with_or q (Err x) f g z e = absurd (not_refused e)
+      with_or : (q : List A) (a : Result (List (List A)) ℕ) → ((xs : List (List A)) → a ≡ Ok xs → Run K n m fs rows rs xs) → Good K n fs rows r q → ((i : ℕ) → i < m → at K q (n + i) ≡ 𝟘) → leads_below K n q ≡ false → with_balance (take n q) a ≡ Ok ws → Run K n m fs rows (r ∷ rs) ws
+      with_or q (Ok xs) f g z l e = subst (λ x. Run K n m fs rows (r ∷ rs) x) (same_list e) (finds q g.reached z l (g.law all.0) (f xs refl))
+      with_or q (Err x) f g z l e = absurd (not_refused e)
 
       case : (h : Handled A) → Told K n m fs rows r h → by_case (λ j q. filed_eliminated K n m (put rows j q) (suc b) rs) (λ q. with_balance (take n q) (filed_eliminated K n m rows (suc b) rs)) (Err b) h ≡ Ok ws → Run K n m fs rows (r ∷ rs) ws
       case (kept j q) t e =
           keeps j q t.0.reached t.2
           (ih (put rows j q) (suc b) ws (put_all (Slot K n) rows j q filed (inr (t.3, t.4))) (put_all (λ _ s. Law K n fs s) rows j q laws (t.0.law all.0)) (put_length rows j m q short t.1) all.1 e)
-      case (balance q) t e = with_or q (filed_eliminated K n m rows (suc b) rs) (λ xs x. ih rows (suc b) xs filed laws short all.1 x) t.0 t.1 e
+      case (balance q) t e = with_or q (filed_eliminated K n m rows (suc b) rs) (λ xs x. ih rows (suc b) xs filed laws short all.1 x) t.0 t.1 t.2 e
       case passes t e = absurd (not_refused e)
 
       past_or : (p : Bool) → cond p (Err b) (by_case (λ j q. filed_eliminated K n m (put rows j q) (suc b) rs) (λ q. with_balance (take n q) (filed_eliminated K n m rows (suc b) rs)) (Err b) (filed_handled K n rows m 0 r)) ≡ Ok ws → Run K n m fs rows (r ∷ rs) ws
@@ -151,7 +152,7 @@ module _ {K : Kind} (L : Lawful K) (m : ℕ) (fs : List (List K.Num)) where
   pub run_sound : {rows rs ws : List (List A)} → Run K n m fs rows rs ws → AllByRecursion (λ w. Vanishes K m fs (at K w)) ws
   run_sound (done f s) = tt
   run_sound (keeps j q r e k) = run_sound k
-  run_sound (finds q r z law k) = (λ j h. comb_below L (at K (take n q)) (at K q) fs j (λ i l. get_or-take n q i 𝟘 l) ∙ sym (law j) ∙ z j h, run_sound k)
+  run_sound (finds q r z l law k) = (λ j h. comb_below L (at K (take n q)) (at K q) fs j (λ i l. get_or-take n q i 𝟘 l) ∙ sym (law j) ∙ z j h, run_sound k)
 
   comb_scale : (k : A) (w : ℕ → A) (rs : List (List A)) (i : ℕ) → comb K (λ x. k ⊗ w x) rs i ≡ k ⊗ comb K w rs i
   comb_scale k w [] i = sym (mul_zero L k)
@@ -180,7 +181,7 @@ module _ {K : Kind} (L : Lawful K) (m : ℕ) (fs : List (List K.Num)) where
       let made : Made K n ws (λ i. u' i ⊕ comb K (λ x. f ⊗ w' x) rs i) = run_complete k u' (span_put L rows j q (w zero ⊗ c.scale) v e (span_lin L f s (w zero) c.span)) (λ x. f ⊗ w' x)
       (λ i l. sym (all (n + i)) ∙ ap (λ x. f ⊗ x) (h i l) ∙ mul_zero L f) in
       record { factor = made.factor ⊗ f; nonzero = mul_nonzero L made.nonzero c.nonzero; multiples = made.multiples; sum = λ i l. L.mul_assoc _ _ _ ∙ ap (λ x. made.factor ⊗ x) (all i) ∙ made.sum i l }
-  run_complete (finds {rows = rows} {rs = rs} {ws = ws} {r = r} q c z law k) u s w h =
+  run_complete (finds {rows = rows} {rs = rs} {ws = ws} {r = r} q c z sign law k) u s w h =
       let f : A = c.factor in
       let a : A = w zero ⊗ c.scale in
       let w' : ℕ → A = λ x. w (suc x) in
@@ -220,6 +221,73 @@ module _ {K : Kind} (L : Lawful K) where
       let same : (b : ℕ) → b < n → w b ≡ 𝟘 ⊕ comb K w rows b = λ b l.
       sym (starts_at L n 0 w fs b (NatL.zero-add n) l) ∙ ap (comb K w rows) (NatL.zero-add b) ∙ sym (zero_add L _) in
       record { factor = made.factor; nonzero = made.nonzero; multiples = made.multiples; sum = λ b l. ap (K.mul made.factor) (same b l) ∙ made.sum b l }
+
+-- ---- the first nonzero weight of a balance
+module _ {K : Kind} (L : Lawful K) where
+  open K use {Num as A, zero as 𝟘, one as 𝟙, add as ◌⊕◌, mul as ◌⊗◌, is_zero}
+
+  infixl 6 ◌⊕◌
+  infixl 7 ◌⊗◌
+  -- weights that are not all zero, and the first of which that is not is not below zero
+  leads_above : (n : ℕ) (q : List A) (b : ℕ) → b < n → at K q b ≢ 𝟘 → leads_below K n q ≡ false → LeadsAbove K (take n q)
+  leads_above zero q b h nz l = absurd (omega arith)
+  leads_above (suc n) [] b h nz l = absurd (nz refl)
+  leads_above (suc n) (x ∷ q) b h nz l = go (leads_above n q) (zero_or L x)
+    where
+      before : (f : LeadsAbove K (take n q)) → x ≡ 𝟘 → (i : ℕ) → i < suc f.first → at K (x ∷ take n q) i ≡ 𝟘
+      before f z zero l = z
+      before f z (suc i) l = f.zeros_before i (omega arith)
+
+      one_more : x ≡ 𝟘 → LeadsAbove K (take n q) → LeadsAbove K (x ∷ take n q)
+      one_more z f = record { first = suc f.first; nonzero = f.nonzero; not_below = f.not_below; zeros_before = before f z }
+
+      later : ((b : ℕ) → b < n → at K q b ≢ 𝟘 → leads_below K n q ≡ false → LeadsAbove K (take n q)) → (b : ℕ) → b < suc n → at K (x ∷ q) b ≢ 𝟘 → x ≡ 𝟘 → LeadsAbove K (x ∷ take n q)
+      later ih zero h nz z = absurd (nz z)
+      later ih (suc b) h nz z = one_more z (ih b (omega arith) nz (sym (cond-true (is_zero x) (leads_below K n q) (K.below x) (ap is_zero z ∙ L.zero_found)) ∙ l))
+
+      go : ((b : ℕ) → b < n → at K q b ≢ 𝟘 → leads_below K n q ≡ false → LeadsAbove K (take n q)) → Dec (x ≡ 𝟘) → LeadsAbove K (x ∷ take n q)
+      go ih (yes z) = later ih b h nz z
+      go ih (no x_nonzero) =
+          record { first = 0; nonzero = x_nonzero; not_below = sym (cond-false (is_zero x) (leads_below K n q) (K.below x) (nonzero_found L x x_nonzero)) ∙ l; zeros_before = λ i l. absurd (omega arith) }
+
+  -- a row has weight at its own place, where no kept row has any
+  own : (rows : List (List A)) (r q : List A) (b : ℕ) → Reached K rows r q → ((k : ℕ) → at K (get_or rows k []) b ≡ 𝟘) → at K r b ≢ 𝟘 → (at K q b ≢ 𝟘)
+  own rows r q b c h nz e =
+      mul_nonzero L c.nonzero nz
+      (c.is b ∙ ap₂ (λ u v. u ⊕ v) (ap (λ u. c.scale ⊗ u) e ∙ mul_zero L c.scale) (c.span.is b ∙ comb_at_zero L c.span.by rows b h) ∙ L.add_zero 𝟘)
+
+  -- and none at a later place
+  none_later : (rows : List (List A)) (r q : List A) (b i : ℕ) → Reached K rows r q → ((k : ℕ) → at K (get_or rows k []) b ≡ 𝟘) → at K r b ≢ 𝟘 → ((k : ℕ) → at K (get_or rows k []) i ≡ 𝟘) → at K r i ≡ 𝟘 → at K q i ≡ 𝟘
+  none_later rows r q b i c hb nz hi z =
+      let scale_nonzero : c.scale ≢ 𝟘 = λ e.
+      mul_nonzero L c.nonzero nz (c.is b ∙ ap₂ (λ u v. u ⊕ v) (ap (λ u. u ⊗ at K q b) e ∙ zero_mul L (at K q b)) (c.span.is b ∙ comb_at_zero L c.span.by rows b hb) ∙ L.add_zero 𝟘) in
+      let gone : c.rest i ≡ 𝟘 = c.span.is i ∙ comb_at_zero L c.span.by rows i hi in
+      L.no_divisors c.scale (at K q i)
+      (sym (ap (λ u. (c.scale ⊗ at K q i) ⊕ u) gone ∙ L.add_zero _) ∙ sym (c.is i) ∙ ap (λ u. c.factor ⊗ u) z ∙ mul_zero L c.factor)
+      scale_nonzero
+
+  -- rows that each have weight at their own place, the first at b, and none at later places
+  abbrev Fresh : ℕ → ℕ → List (List A) → Type 0
+  Fresh n b [] = Unit {0}
+  Fresh n b (r ∷ rs) = ((b < n) × (at K r b ≢ 𝟘) × ((i : ℕ) → b < i → i < n → at K r i ≡ 𝟘)) × Fresh n (suc b) rs
+
+  starts_fresh : (n b : ℕ) (fs : List (List A)) → b + length fs ≤ n → Fresh n b (starts K n b fs)
+  starts_fresh n b [] h = tt
+  starts_fresh n b (f ∷ fs) h =
+      ((omega arith, λ e. L.one_nonzero (sym (unit_same L n b f (omega arith)) ∙ e), λ i l u. unit_other L n b i f u (omega arith)), starts_fresh n (suc b) fs (omega arith))
+
+  run_signed : {n m : ℕ} {fs rows rs ws : List (List A)} → Run K n m fs rows rs ws → (b : ℕ) → ((k i : ℕ) → b ≤ i → i < n → at K (get_or rows k []) i ≡ 𝟘) → Fresh n b rs → AllByRecursion (LeadsAbove K) ws
+  run_signed (done f s) b h fresh = tt
+  run_signed {n} (keeps {rows = rows} {r = r} j q c e k) b h fresh =
+      let here : (x : ℕ) → at K (get_or rows x []) b ≡ 𝟘 = λ x. h x b (omega arith) fresh.0.0 in
+      run_signed k (suc b)
+      (λ x i l u. put_all (λ _ s. at K s i ≡ 𝟘) rows j q (λ y. h y i (omega arith) u) (none_later rows r q b i c here fresh.0.1 (λ y. h y i (omega arith) u) (fresh.0.2 i (omega arith) u)) x)
+      fresh.1
+  run_signed {n} (finds {rows = rows} {r = r} q c z l law k) b h fresh =
+      (leads_above n q b fresh.0.0 (own rows r q b c (λ x. h x b (omega arith) fresh.0.0) fresh.0.1) l, run_signed k (suc b) (λ x i l u. h x i (omega arith) u) fresh.1)
+
+  pub filed_signed : (m : ℕ) (fs ws : List (List A)) → filed_eliminate K m fs ≡ Ok ws → AllByRecursion (LeadsAbove K) ws
+  filed_signed m fs ws e = run_signed (the_run L m fs ws e) 0 (λ k i l u. refl) (starts_fresh (length fs) 0 fs (omega arith))
 
 -- ---- the other way round
 module _ {K : Kind} (L : Lawful K) (m : ℕ) (fs : List (List K.Num)) where

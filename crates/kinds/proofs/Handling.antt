@@ -1,12 +1,12 @@
 -- What becomes of one row. Assumes nothing.
-use Rattle.std.proofs.Common.{◌≡◌, ℕ, zero, suc, ◌+◌, ◌<◌, Bool, true, false, ◌≢◌, List, [], map, get_or, sym, ap, ◌∙◌, subst, ap₂, inl, inr, arith}
+use Rattle.std.proofs.Common.{◌≡◌, ℕ, zero, suc, ◌+◌, ◌<◌, Bool, true, false, ◌≢◌, List, [], ◌∷◌, refl, map, get_or, sym, ap, ◌∙◌, subst, ap₂, inl, inr, arith}
 use native.Mathlib.Decide.{ℕ_discrete}
-use Rattle.std.proofs.lemmas.Bool.{cond_both}
+use Rattle.std.proofs.lemmas.Bool.{cond_both, cond-true, cond-false}
 use Rattle.kinds.specs.Kinds.{Kind, Lawful}
 use Rattle.kinds.specs.Elimination.{at, stepped, negated_if, leads_below, any_past, Handled, kept, balance, passes}
 use Rattle.kinds.specs.Completeness.{comb}
 use Rattle.kinds.proofs.Filing.{filed_handled}
-use Rattle.kinds.proofs.Ring.{mul_left_comm, one_mul, mul_zero, neg_zero, neg_neg, neg_mul, mul_neg, add_cancel, mul_cancel, mul_nonzero, zero_or, found_nonzero}
+use Rattle.kinds.proofs.Ring.{mul_left_comm, one_mul, mul_zero, neg_zero, neg_neg, neg_mul, mul_neg, add_cancel, mul_cancel, mul_nonzero, zero_or, found_nonzero, nonzero_found}
 use Rattle.kinds.proofs.Comb.{comb_lin, comb_none, comb_same, at_negated, Span, span_zero, span_lin, span_row}
 use Rattle.kinds.proofs.Division.{Step, step, step_clears}
 use Rattle.kinds.proofs.Filed.{Slot, Filed, slot_before}
@@ -93,6 +93,44 @@ module _ {K : Kind} (L : Lawful K) where
   pub negated_zero : (r : List A) (i : ℕ) → at K r i ≡ 𝟘 → at K (map K.neg r) i ≡ 𝟘
   negated_zero r i e = at_negated L r i ∙ ap (λ u. ⊖ u) e ∙ neg_zero L
 
+  -- a row that is negated or not
+  pub signed_zero : (b : Bool) (r : List A) (i : ℕ) → at K r i ≡ 𝟘 → at K (negated_if K b r) i ≡ 𝟘
+  signed_zero true r i e = negated_zero r i e
+  signed_zero false r i e = e
+
+  pub signed_nonzero : (b : Bool) (r : List A) (i : ℕ) → at K r i ≢ 𝟘 → at K (negated_if K b r) i ≢ 𝟘
+  signed_nonzero true r i h = negated_nonzero r i h
+  signed_nonzero false r i h = h
+
+  -- negated where it is below zero there, it is not below zero there
+  pub signed_not_below : (r : List A) (i : ℕ) → K.below (at K (negated_if K (K.below (at K r i)) r) i) ≡ false
+  signed_not_below r i = go (K.below (at K r i)) refl
+    where
+      go : (b : Bool) → K.below (at K r i) ≡ b → K.below (at K (negated_if K b r) i) ≡ false
+      go true e = ap K.below (at_negated L r i) ∙ L.below_once (at K r i) e
+      go false e = e
+
+  -- negated where its first nonzero weight is below zero, that weight is not below zero
+  leads_negated : (n : ℕ) (r : List A) → leads_below K n r ≡ true → leads_below K n (map K.neg r) ≡ false
+  leads_negated zero r e = refl
+  leads_negated (suc n) [] e = refl
+  leads_negated (suc n) (x ∷ r) e = go (leads_negated n r) (zero_or L x)
+    where
+      go : (leads_below K n r ≡ true → leads_below K n (map K.neg r) ≡ false) → Dec (x ≡ 𝟘) → leads_below K (suc n) (map K.neg (x ∷ r)) ≡ false
+      go ih (yes z) =
+          cond-true (is_zero (⊖ x)) (leads_below K n (map K.neg r)) (K.below (⊖ x)) (ap (λ u. is_zero (⊖ u)) z ∙ ap is_zero (neg_zero L) ∙ L.zero_found)
+          ∙ ih (sym (cond-true (is_zero x) (leads_below K n r) (K.below x) (ap is_zero z ∙ L.zero_found)) ∙ e)
+      go ih (no h) =
+          cond-false (is_zero (⊖ x)) (leads_below K n (map K.neg r)) (K.below (⊖ x)) (nonzero_found L (⊖ x) (λ z. h (sym (neg_neg L x) ∙ ap (λ u. ⊖ u) z ∙ neg_zero L)))
+          ∙ L.below_once x (sym (cond-false (is_zero x) (leads_below K n r) (K.below x) (nonzero_found L x h)) ∙ e)
+
+  pub signed_leads : (n : ℕ) (r : List A) → leads_below K n (negated_if K (leads_below K n r) r) ≡ false
+  signed_leads n r = go (leads_below K n r) refl
+    where
+      go : (b : Bool) → leads_below K n r ≡ b → leads_below K n (negated_if K b r) ≡ false
+      go true e = leads_negated n r e
+      go false e = e
+
 -- ---- the scan
 pub record Good (K : Kind) (n : ℕ) (fs rows : List (List K.Num)) (r q : List K.Num) : Type 0 where
   pub reached : Reached K rows r q
@@ -102,7 +140,7 @@ pub record Good (K : Kind) (n : ℕ) (fs rows : List (List K.Num)) (r q : List K
 abbrev pub Told : (K : Kind) → (n m : ℕ) → (fs rows : List (List K.Num)) → List K.Num → Handled K.Num → Type 0
 Told K n m fs rows r (kept j q) =
     Good K n fs rows r q × (j < m) × (get_or rows j [] ≡ []) × (at K q (n + j) ≢ K.zero) × ((i : ℕ) → i < j → at K q (n + i) ≡ K.zero)
-Told K n m fs rows r (balance q) = Good K n fs rows r q × ((i : ℕ) → i < m → at K q (n + i) ≡ K.zero)
+Told K n m fs rows r (balance q) = Good K n fs rows r q × ((i : ℕ) → i < m → at K q (n + i) ≡ K.zero) × (leads_below K n q ≡ false)
 Told K n m fs rows r passes = Unit {0}
 
 module _ {K : Kind} (L : Lawful K) (n m : ℕ) (fs rows : List (List K.Num)) (filed : Filed K n rows) (laws : (j : ℕ) → Law K n fs (get_or rows j [])) where
@@ -114,20 +152,12 @@ module _ {K : Kind} (L : Lawful K) (n m : ℕ) (fs rows : List (List K.Num)) (fi
   good_signed true r = record { reached = reached_negated L rows r; law = law_negated L n fs r }
   good_signed false r = record { reached = reached_self L rows r; law = λ h. h }
 
-  signed_zero : (b : Bool) (r : List A) (i : ℕ) → at K r i ≡ 𝟘 → at K (negated_if K b r) i ≡ 𝟘
-  signed_zero true r i e = negated_zero L r i e
-  signed_zero false r i e = e
-
-  signed_nonzero : (b : Bool) (r : List A) (i : ℕ) → at K r i ≢ 𝟘 → at K (negated_if K b r) i ≢ 𝟘
-  signed_nonzero true r i h = negated_nonzero L r i h
-  signed_nonzero false r i h = h
-
   told_step : (j : ℕ) (r q : List A) → Step K r (get_or rows j []) q → (h : Handled A) → Told K n m fs rows q h → Told K n m fs rows r h
   told_step j r q s (kept k o) t = (good t.0, t.1, t.2, t.3, t.4)
     where
       good : Good K n fs rows q o → Good K n fs rows r o
       good g = record { reached = reached_step L rows j r q o s g.reached; law = λ h. g.law (law_step L n fs r (get_or rows j []) q s (laws j) h) }
-  told_step j r q s (balance o) t = (good t.0, t.1)
+  told_step j r q s (balance o) t = (good t.0, t.1, t.2)
     where
       good : Good K n fs rows q o → Good K n fs rows r o
       good g = record { reached = reached_step L rows j r q o s g.reached; law = λ h. g.law (law_step L n fs r (get_or rows j []) q s (laws j) h) }
@@ -146,7 +176,7 @@ module _ {K : Kind} (L : Lawful K) (n m : ℕ) (fs rows : List (List K.Num)) (fi
 
   pub told : (columns j : ℕ) (r : List A) → columns + j ≡ m → ((i : ℕ) → i < j → at K r (n + i) ≡ 𝟘) → Told K n m fs rows r (filed_handled K n rows columns j r)
   unfolding filed_handled
-  told zero j r e zeros = (good_signed (leads_below K n r) r, λ i h. signed_zero (leads_below K n r) r (n + i) (zeros i (omega arith)))
+  told zero j r e zeros = (good_signed (leads_below K n r) r, λ i h. signed_zero L (leads_below K n r) r (n + i) (zeros i (omega arith)), signed_leads L n r)
   told (suc columns) j r e zeros =
       let c : A = at K r (n + j) in
       let s : List A = get_or rows j [] in
@@ -157,7 +187,7 @@ module _ {K : Kind} (L : Lawful K) (n m : ℕ) (fs rows : List (List K.Num)) (fi
       cond_both (is_zero c) _ _ P
       (λ z. told columns (suc j) r (omega arith) (one_more (λ i. at K r (n + i) ≡ 𝟘) j zeros (L.found_zero c z)))
       (λ nz. cond_both (is_zero p) _ _ P
-      (λ z. (good_signed (K.below c) r, omega arith, empty_slot j (filed j) (L.found_zero p z), signed_nonzero (K.below c) r (n + j) (found_nonzero L c nz), λ i h. signed_zero (K.below c) r (n + i) (zeros i h)))
+      (λ z. (good_signed (K.below c) r, omega arith, empty_slot j (filed j) (L.found_zero p z), signed_nonzero L (K.below c) r (n + j) (found_nonzero L c nz), λ i h. signed_zero L (K.below c) r (n + i) (zeros i h)))
       (λ np. cond_both (any_past K q) passes on P (λ _. tt)
       (λ _.
       let st : Step K r s q = step L c p r s (found_nonzero L p np) in

@@ -1,3 +1,4 @@
+pub mod Euclid
 pub mod Ring
 pub mod Filing
 pub mod Comb
@@ -7,3 +8,5 @@ pub mod Handling
 pub mod Finding
 pub mod Shape
 pub mod Arrival
+pub mod Columns
+pub mod Lowest

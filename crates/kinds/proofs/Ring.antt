@@ -71,6 +71,13 @@ module _ {K : Kind} (L : Lawful K) where
   pub found_nonzero : (x : A) → is_zero x ≡ false → x ≢ 𝟘
   found_nonzero x e z = true≢false (sym L.zero_found ∙ ap is_zero (sym z) ∙ e)
 
+  pub nonzero_found : (x : A) → x ≢ 𝟘 → is_zero x ≡ false
+  nonzero_found x h = go (is_zero x) refl
+    where
+      go : (b : Bool) → is_zero x ≡ b → is_zero x ≡ false
+      go true e = absurd (h (L.found_zero x e))
+      go false e = e
+
   pub mul_nonzero : {x y : A} → x ≢ 𝟘 → y ≢ 𝟘 → x ⊗ y ≢ 𝟘
   mul_nonzero {x} {y} hx hy e = hy (L.no_divisors x y e hx)
 

@@ -1,9 +1,10 @@
 -- The shape of what elimination answers: lengths and the limit. Assumes nothing.
 use Rattle.std.proofs.Common.{◌≡◌, ℕ, zero, suc, ◌+◌, ◌≤◌, Bool, true, false, ◌||◌, ◌≢◌, ◌⊎◌, List, [], ◌∷◌, map, length, get_or, take, replicate, Ok, Err, Result, sym, refl, ap, ◌∙◌, subst, ap₂, inl, inr, true≢false, arith}
 use Rattle.std.proofs.lemmas.List.{length-append, length-map, length-set, length-replicate, length-take-le}
+use Rattle.std.specs.Prelude.{nat_lt}
 use Rattle.std.specs.List.{AllByRecursion}
 use Rattle.std.proofs.lemmas.Bool.{cond_both, or_parts, or_from}
-use Rattle.kinds.specs.Kinds.{Kind, Lawful}
+use Rattle.kinds.specs.Kinds.{Kind, Lawful, past}
 use Rattle.kinds.specs.Elimination.{at, less, divisor_from, stepped, negated_if, leads_below, unit, starts, any_past, Handled, kept, balance, passes}
 use Rattle.kinds.proofs.Filing.{put, filed_handled, by_case, with_balance, filed_eliminated, filed_eliminate}
 use Rattle.kinds.proofs.Ring.{found_nonzero}
@@ -34,12 +35,12 @@ module _ {K : Kind} (L : Lawful K) where
 
   past_negated : (r : List A) → any_past K (map K.neg r) ≡ any_past K r
   past_negated [] = refl
-  past_negated (x ∷ xs) = ap₂ (λ a b. a || b) (L.past_neg x) (past_negated xs)
+  past_negated (x ∷ xs) = ap₂ (λ a b. a || b) (ap (nat_lt K.limit) (L.size_neg x)) (past_negated xs)
 
   past_front : (n : ℕ) (r : List A) → any_past K r ≡ false → any_past K (take n r) ≡ false
   past_front zero r e = refl
   past_front (suc n) [] e = refl
-  past_front (suc n) (x ∷ r) e = let p = or_parts (K.past x) (any_past K r) e in or_from (K.past x) (any_past K (take n r)) p.0 (past_front n r p.1)
+  past_front (suc n) (x ∷ r) e = let p = or_parts (past K x) (any_past K r) e in or_from (past K x) (any_past K (take n r)) p.0 (past_front n r p.1)
 
   -- a row of N numbers within the limit
   abbrev Fit : ℕ → List A → Type 0

@@ -38,6 +38,19 @@ Shaped K =
     (m : ℕ) (fs ws : List (List K.Num)) → AllByRecursion (λ f. length f ≡ m) fs → eliminate K m fs ≡ Ok ws
     → AllByRecursion (λ w. (length w ≡ length fs) × (any_past K w ≡ false)) ws × (length ws ≤ length fs)
 
+-- the first nonzero number of w is above zero: it is not zero, not below zero, and all before it are zero
+pub record LeadsAbove (K : Kind) (w : List K.Num) : Type 0 where
+  pub first : ℕ
+  pub nonzero : at K w first ≢ K.zero
+  pub not_below : K.below (at K w first) ≡ false
+  pub zeros_before : (i : ℕ) → i < first → at K w i ≡ K.zero
+
+-- the first nonzero weight of each balance is above zero
+abbrev pub Signed : Kind → Type 0
+Signed K =
+    (m : ℕ) (fs ws : List (List K.Num)) → eliminate K m fs ≡ Ok ws
+    → AllByRecursion (LeadsAbove K) ws
+
 -- a step against a kept row that is not zero at place i leaves zero there, and leaves zero where both rows are zero:
 -- so a step makes the row's lowest term higher, and to look at the columns upwards is to look for the lowest term again
 abbrev pub StepsClear : Kind → Type 0

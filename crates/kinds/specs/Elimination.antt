@@ -3,7 +3,7 @@
 use Rattle.std.specs.Prelude.{ℕ, zero, suc, ◌+◌, Bool, true, false, cond, List, [], ◌∷◌, ◌++◌, map, length, take, replicate, Some, None, Ok, Err, Option, Result, ◌==◌, slice_index_or, slice_set}
 use Rattle.std.specs.List.{fold, list_any}
 use Rattle.std.specs.Option.{option_map_or}
-use Rattle.kinds.specs.Kinds.{Kind}
+use Rattle.kinds.specs.Kinds.{Kind, past}
 
 -- of kept rows, each with the column of its lowest term: the first whose column is j
 abbrev pub kept_under : {A : Type 0} → List (ℕ × List A) → ℕ → Option (List A)
@@ -22,7 +22,7 @@ pub record State (A : Type 0) : Type 0 where
   pub balances : List (List A)
 
 module _ (K : Kind) where
-  open K use {Num, one, add, mul, neg, is_zero, divisor, quotient, below, past}
+  open K use {Num, one, add, mul, neg, is_zero, divisor, quotient, below}
 
   -- the number of a row at place i, zero past its end
   abbrev pub at : List Num → ℕ → Num
@@ -52,7 +52,7 @@ module _ (K : Kind) where
 
   -- whether a number of a row is past the limit
   abbrev pub any_past : List Num → Bool
-  any_past = list_any past
+  any_past = list_any (past K)
 
   -- whether the first nonzero of the first n numbers is below zero
   abbrev pub leads_below : ℕ → List Num → Bool

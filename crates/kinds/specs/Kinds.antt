@@ -14,16 +14,22 @@ pub record Kind : Type 1 where
   pub divisor : Num → Num → Num
   pub quotient : Num → Num → Num
   pub below : Num → Bool
-  pub past : Num → Bool
+  pub limit : ℕ
+  pub size : Num → ℕ
   pub counts : ℤ → Num
   pub writes : Num → ℤ
+
+-- whether a number is past its kind's limit: its size is above it
+abbrev pub past : (K : Kind) → K.Num → Bool
+past K x = nat_lt K.limit (K.size x)
 
 -- d divides x
 abbrev pub Divides : (K : Kind) → K.Num → K.Num → Type 0
 Divides K d x = (q : K.Num) × (K.mul d q ≡ x)
 
 -- a commutative ring where no product of nonzero numbers is zero (an integral domain), with exact division by a divisor,
--- a limit that does not ask for the sign, and a counting that keeps sums and products (a ring map from the integers)
+-- signs (zero is not below zero, and of a number and its negative at most one is), a size that does not ask for the sign,
+-- and a counting that keeps sums and products (a ring map from the integers)
 pub record Lawful (K : Kind) : Type 0 where
   pub add_comm : (x y : K.Num) → K.add x y ≡ K.add y x
   pub add_assoc : (x y z : K.Num) → K.add (K.add x y) z ≡ K.add x (K.add y z)
@@ -41,7 +47,9 @@ pub record Lawful (K : Kind) : Type 0 where
   pub divides_right : (x y : K.Num) → Divides K (K.divisor x y) y
   pub exact : (x d : K.Num) → Divides K d x → K.mul d (K.quotient x d) ≡ x
   pub zero_quotient : (d : K.Num) → K.quotient K.zero d ≡ K.zero
-  pub past_neg : (x : K.Num) → K.past (K.neg x) ≡ K.past x
+  pub zero_not_below : K.below K.zero ≡ false
+  pub below_once : (x : K.Num) → K.below x ≡ true → K.below (K.neg x) ≡ false
+  pub size_neg : (x : K.Num) → K.size (K.neg x) ≡ K.size x
   pub counts_one : K.counts (pos 1) ≡ K.one
   pub counts_sum : (x y : ℤ) → K.counts (x +ℤ y) ≡ K.add (K.counts x) (K.counts y)
   pub counts_product : (x y : ℤ) → K.counts (x *ℤ y) ≡ K.mul (K.counts x) (K.counts y)
@@ -70,7 +78,8 @@ wholes = record {
   divisor = λ x y. pos (gcd (unsigned_abs x) (unsigned_abs y));
   quotient = quot_z;
   below = λ x. int_lt x (pos 0);
-  past = λ x. nat_lt 1000000 (unsigned_abs x);
+  limit = 1000000;
+  size = unsigned_abs;
   counts = λ x. x;
   writes = λ x. x;
 }
@@ -79,7 +88,7 @@ wholes = record {
 abbrev pub differ : Bool → Bool → Bool
 differ a b = cond a (not b) b
 
--- parities, remainders by 2: true is 1; never below zero, never past the limit; every divisor is 1
+-- parities, remainders by 2: true is 1; never below zero, with a limit of 1; every divisor is 1
 abbrev pub parities : Kind
 parities = record {
   Num = Bool;
@@ -92,7 +101,8 @@ parities = record {
   divisor = λ x y. true;
   quotient = λ x d. x;
   below = λ x. false;
-  past = λ x. false;
+  limit = 1;
+  size = λ x. cond x 1 0;
   counts = λ x. (unsigned_abs x % 2 == 1);
   writes = λ x. cond x (pos 1) (pos 0);
 }

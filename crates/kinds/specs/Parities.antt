@@ -4,7 +4,7 @@ use Rattle.std.proofs.Common.{sym, ap, ◌∙◌, true≢false, arith, ltb→lt,
 use Rattle.std.proofs.Math.Nat.{div-add-mod}
 use Rattle.std.proofs.Math.Bool.{and_comm, and_assoc}
 use Rattle.std.proofs.lemmas.Int.{unsigned_abs-mul}
-use Rattle.kinds.specs.Kinds.{Lawful, parities, differ}
+use Rattle.kinds.specs.Kinds.{Lawful, parities, past, differ}
 
 pub plus_comm : (a b : Bool) → differ a b ≡ differ b a
 plus_comm true true = refl
@@ -86,6 +86,11 @@ odd_bit : (b : Bool) → (unsigned_abs (cond b (pos 1) (pos 0)) % 2 == 1) ≡ b
 odd_bit true = refl
 odd_bit false = refl
 
+-- a parity is within its limit
+pub parity_within : (x : Bool) → past parities x ≡ false
+parity_within true = refl
+parity_within false = refl
+
 pub parities_lawful : Lawful parities
 parities_lawful = record {
   add_comm = plus_comm;
@@ -104,7 +109,9 @@ parities_lawful = record {
   divides_right = λ x y. (y, refl);
   exact = exact;
   zero_quotient = λ d. refl;
-  past_neg = λ x. refl;
+  zero_not_below = refl;
+  below_once = λ x e. refl;
+  size_neg = λ x. refl;
   counts_one = refl;
   counts_sum = odd_sum;
   counts_product = odd_product;

@@ -1,9 +1,10 @@
 -- Whole numbers keep the laws.
-use Rattle.std.specs.Prelude.{◌≡◌, ℕ, zero, suc, ◌+◌, ◌*◌, ◌/◌, ◌<◌, Bool, true, ◌≢◌, ℤ, pos, negsuc, ◌+ℤ◌, ◌*ℤ◌, neg_ℤ, ◌==◌, int_div, nat_lt, unsigned_abs, refl}
-use Rattle.std.proofs.Common.{sym, ap, subst, ◌∙◌, mul-one, mul-zero, mul-pos, arith, eqb→eq}
+use Rattle.std.specs.Prelude.{◌≡◌, ℕ, zero, suc, ◌+◌, ◌*◌, ◌/◌, ◌<◌, Bool, true, false, ◌≢◌, ℤ, pos, negsuc, ◌+ℤ◌, ◌*ℤ◌, neg_ℤ, ◌==◌, int_div, int_lt, unsigned_abs, refl}
+use Rattle.std.proofs.Common.{sym, ap, subst, ◌∙◌, mul-one, mul-zero, mul-pos, arith, eqb→eq, ltb→lt}
 use Rattle.std.specs.Int.{◌∣◌}
 use Rattle.std.proofs.Math.Nat.{zero-div, mul-div_cancel', dvd-mul_right}
 use Rattle.std.proofs.Math.IntN.{+ℤ_comm, +ℤ_assoc, +ℤ_idr, +ℤ_invr, *ℤ_comm}
+use Rattle.std.proofs.lemmas.Bool.{le-ltb}
 use Rattle.std.proofs.lemmas.Int.{unsigned_abs-mul}
 use borrow.Author.Differences.{up, down, same_in, sum_is_lem, product_is}
 use Rattle.kinds.specs.Kinds.{Lawful, wholes, gcd}
@@ -96,6 +97,10 @@ pub abs_of_neg : (z : ℤ) → unsigned_abs (neg_ℤ z) ≡ unsigned_abs z
 abs_of_neg (pos n) = abs_neg n
 abs_of_neg (negsuc n) = refl
 
+pub below_once : (z : ℤ) → int_lt z (pos 0) ≡ true → int_lt (neg_ℤ z) (pos 0) ≡ false
+below_once (pos n) e = let h : n < 0 = ltb→lt n 0 (rw e tt) in absurd (omega arith)
+below_once (negsuc n) e = le-ltb (suc n) 0 (omega arith)
+
 pub wholes_lawful : Lawful wholes
 wholes_lawful = record {
   add_comm = +ℤ_comm;
@@ -114,7 +119,9 @@ wholes_lawful = record {
   divides_right = divides_right;
   exact = exact;
   zero_quotient = zero_quotient;
-  past_neg = λ z. ap (λ n. nat_lt 1000000 n) (abs_of_neg z);
+  zero_not_below = refl;
+  below_once = below_once;
+  size_neg = abs_of_neg;
   counts_one = refl;
   counts_sum = λ x y. refl;
   counts_product = λ x y. refl;

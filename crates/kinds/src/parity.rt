@@ -1,27 +1,30 @@
 ghost use Rattle.kinds.specs.Kinds.{parities};
-ghost use Rattle.kinds.specs.Parities.{parities_lawful};
-ghost use Rattle.std.proofs.Common.{rules};
+ghost use Rattle.kinds.specs.Parities.{parities_lawful, parity_within};
 
 use crate::Number;
 
-// A remainder by 2: odd is 1.
+/// A remainder by 2: odd is 1. Products and sums of remainders are remainders again.
 #[derive(Clone, Copy, PartialEq, Eq, Debug)]
 pub struct Parity {
     pub odd: bool,
 }
 
 impl Number for Parity {
-    type Wide = Parity;
+    type Product = Parity;
+
+    type Sum = Parity;
 
     ghost kind = { parities };
 
     ghost value = { λ x. x.odd };
 
-    ghost wide = { λ x. x.odd };
+    ghost product = { λ x. x.odd };
+
+    ghost sum = { λ x. x.odd };
 
     ghost lawful = { parities_lawful };
 
-    ghost within = { Prim.search rules };
+    ghost within = { λ x. parity_within x.odd };
 
     fn zero() -> Parity {
         Parity { odd: false }
@@ -43,6 +46,16 @@ impl Number for Parity {
         self
     }
 
+    fn times(self, x: Parity) -> Parity {
+        Parity {
+            odd: self.odd & x.odd,
+        }
+    }
+
+    fn plus(p: Parity, q: Parity) -> Parity {
+        Parity { odd: p.odd ^ q.odd }
+    }
+
     fn counted(n: i64) -> Option<Parity> {
         Some(Parity {
             odd: n.unsigned_abs() % 2 == 1,
@@ -57,13 +70,7 @@ impl Number for Parity {
         (c, p)
     }
 
-    fn combined(a: Parity, x: Parity, c: Parity, y: Parity) -> Parity {
-        Parity {
-            odd: (a.odd & x.odd) ^ (c.odd & y.odd),
-        }
-    }
-
-    fn wide_zero() -> Parity {
+    fn zero_sum() -> Parity {
         Parity { odd: false }
     }
 

@@ -1,5 +1,5 @@
-ghost use Rattle.std.specs.Prelude.{◌≡◌, ◌≤◌, ◌-ℤ◌, ◌*ℤ◌, true, MatchOption, unsigned_abs};
-ghost use Rattle.kinds.specs.Kinds.{wholes};
+ghost use Rattle.std.specs.Prelude.{◌≡◌, ◌*◌, ◌≤◌, true, MatchOption, unsigned_abs};
+ghost use Rattle.kinds.specs.Kinds.{wholes, past};
 ghost use Rattle.kinds.specs.Wholes.{wholes_lawful};
 ghost use Rattle.std.proofs.Common.{rules};
 
@@ -9,23 +9,30 @@ use crate::divisor::gcd;
 // The limit of whole numbers, either way.
 const LIMIT: u64 = 1000000;
 
-// A whole number within the limit.
+/// A whole number within the limit.
 #[derive(Clone, Copy, PartialEq, Eq, Debug)]
 pub struct Whole {
     n: i32,
-    ghost small: { unsigned_abs n ≤ 1000000 },
+    ghost small: { unsigned_abs n ≤ wholes.limit },
 }
 
-// A difference of two products of such numbers, or what division makes of one.
+/// A product of two whole numbers within the limit.
 #[derive(Clone, Copy, PartialEq, Eq, Debug)]
-pub struct Combination {
+pub struct WholeProduct {
     n: i64,
-    ghost small: { unsigned_abs n ≤ 2000000000000 },
+    ghost small: { unsigned_abs n ≤ wholes.limit * wholes.limit },
+}
+
+/// A sum of two such products, or what division makes of one.
+#[derive(Clone, Copy, PartialEq, Eq, Debug)]
+pub struct WholeSum {
+    n: i64,
+    ghost small: { unsigned_abs n ≤ 2 * (wholes.limit * wholes.limit) },
 }
 
 // The number, or nothing past the limit.
 fn within_limit(n: i64) -> Option<Whole>
-    ensures { MatchOption result (wholes.past n ≡ true) (λ x. x.n ≡ n) }
+    ensures { MatchOption result (past wholes n ≡ true) (λ x. x.n ≡ n) }
 {
     if n.unsigned_abs() <= LIMIT {
         Some(Whole { n: n as i32 })
@@ -34,32 +41,18 @@ fn within_limit(n: i64) -> Option<Whole>
     }
 }
 
-// The product of two numbers within the limit.
-fn product(a: i32, x: i32) -> i64
-    requires { (unsigned_abs a ≤ 1000000) × (unsigned_abs x ≤ 1000000) }
-    ensures value { result ≡ a *ℤ x }
-    ensures small { unsigned_abs result ≤ 1000000000000 }
-{
-    i64::from(a) * i64::from(x)
-}
-
-// The difference of two such products.
-fn difference(p: i64, q: i64) -> i64
-    requires { (unsigned_abs p ≤ 1000000000000) × (unsigned_abs q ≤ 1000000000000) }
-    ensures value { result ≡ p -ℤ q }
-    ensures small { unsigned_abs result ≤ 2000000000000 }
-{
-    p - q
-}
-
 impl Number for Whole {
-    type Wide = Combination;
+    type Product = WholeProduct;
+
+    type Sum = WholeSum;
 
     ghost kind = { wholes };
 
     ghost value = { λ x. x.n };
 
-    ghost wide = { λ x. x.n };
+    ghost product = { λ x. x.n };
+
+    ghost sum = { λ x. x.n };
 
     ghost lawful = { wholes_lawful };
 
@@ -85,6 +78,16 @@ impl Number for Whole {
         Whole { n: -self.n }
     }
 
+    fn times(self, x: Whole) -> WholeProduct {
+        WholeProduct {
+            n: i64::from(self.n) * i64::from(x.n),
+        }
+    }
+
+    fn plus(p: WholeProduct, q: WholeProduct) -> WholeSum {
+        WholeSum { n: p.n + q.n }
+    }
+
     fn counted(n: i64) -> Option<Whole> {
         within_limit(n)
     }
@@ -102,31 +105,25 @@ impl Number for Whole {
         }
     }
 
-    fn combined(a: Whole, x: Whole, c: Whole, y: Whole) -> Combination {
-        Combination {
-            n: difference(product(a.n, x.n), product(c.n, y.n)),
-        }
+    fn zero_sum() -> WholeSum {
+        WholeSum { n: 0 }
     }
 
-    fn wide_zero() -> Combination {
-        Combination { n: 0 }
-    }
-
-    fn divisor(a: Combination, b: Combination) -> Combination {
-        Combination {
+    fn divisor(a: WholeSum, b: WholeSum) -> WholeSum {
+        WholeSum {
             n: gcd(a.n.unsigned_abs(), b.n.unsigned_abs()) as i64,
         }
     }
 
-    fn quotient(a: Combination, d: Combination) -> Combination {
+    fn quotient(a: WholeSum, d: WholeSum) -> WholeSum {
         if d.n == 0 {
-            Combination { n: 0 }
+            WholeSum { n: 0 }
         } else {
-            Combination { n: a.n / d.n }
+            WholeSum { n: a.n / d.n }
         }
     }
 
-    fn narrowed(a: Combination) -> Option<Whole> {
+    fn narrowed(a: WholeSum) -> Option<Whole> {
         within_limit(a.n)
     }
 }

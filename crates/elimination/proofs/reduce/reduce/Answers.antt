@@ -2,7 +2,8 @@ use Rattle.std.proofs.Common.{◌+◌, ◌-◌, map, length, sym, ap, ◌∙◌,
 use Rattle.std.proofs.lemmas.Result.{err_from_is_err_and}
 use Rattle.kinds.specs.Elimination.{handled}
 use Rattle.elimination.specs.Memory.{kept_of}
-use Rattle.elimination.proofs.Scan.{tested, passes_by, leads_at, goes_on, refuses, at_end}
+use Rattle.kinds.proofs.Columns.{passes_by, leads_at, goes_on, refuses, at_end}
+use Rattle.elimination.proofs.Scan.{tested}
 use Rattle.elimination.proofs.reduce.reduce.Goals as goal
 
 pub loop-j-preserved-then-is_zero : goal.loop-j-preserved-then-is_zero

@@ -11,8 +11,8 @@ returns g c =
     let m = g.T.Number in
     let K = m.kind in
     let row = c.args.row.now in
-    fold_over fronts (λ y. y.now) _ (λ ys d. m.wide d ≡ divisor_from K K.zero (map m.wide ys)) _
+    fold_over fronts (λ y. y.now) _ (λ ys d. m.sum d ≡ divisor_from K K.zero (map m.sum ys)) _
     (λ ys a x b f' j k.
-    let more = ap (divisor_from K K.zero) (map-append m.wide ys (x.now ∷ [])) ∙ fold_push K.divisor K.zero (map m.wide ys) (m.wide x.now) in
+    let more = ap (divisor_from K K.zero) (map-append m.sum ys (x.now ∷ [])) ∙ fold_push K.divisor K.zero (map m.sum ys) (m.sum x.now) in
     search rules)
-    _ row _ _ (YieldsList-from_slice row c.iter.ensures.rest).runs c.wide_zero.ensures c.fold.ensures.ran
+    _ row _ _ (YieldsList-from_slice row c.iter.ensures.rest).runs c.zero_sum.ensures c.fold.ensures.ran
