@@ -1,7 +1,6 @@
 -- The kept row that the code reads is the one that is found.
-use Rattle.std.proofs.Common.{◌≡◌, ℕ, zero, suc, ◌+◌, ◌-◌, ◌*◌, ◌<◌, ◌≤◌, Bool, true, false, cond, eqb, List, [], ◌∷◌, map, length, get_or, take, drop, Some, None, sym, refl, ap, ◌∙◌, mul-le-mul_right, suc-mul, zero-mul, arith, eq-eqb, ne_eqb}
+use Rattle.std.proofs.Common.{◌≡◌, ℕ, zero, suc, ◌+◌, ◌*◌, ◌<◌, ◌≤◌, Bool, true, false, cond, eqb, List, [], ◌∷◌, map, length, get_or, take, drop, Some, None, sym, refl, ap, ◌∙◌, mul-le-mul_right, suc-mul, zero-mul, arith, eq-eqb, ne_eqb}
 use Rattle.std.proofs.lemmas.List.{drop-drop, get_or-map, take-map, drop-map}
-use Rattle.std.specs.Option.{option_map_or}
 use Rattle.kinds.specs.Kinds.{Kind}
 use Rattle.kinds.specs.Elimination.{kept_under, at}
 use Rattle.elimination.specs.Memory.{kept_of}

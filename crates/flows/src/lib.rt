@@ -9,5 +9,4 @@ ghost use Rattle.flows.specs.Completeness.{Zero, Even, BalancesAreComplete};
 pub fn balances_are_complete()
     ensures wholes { BalancesAreComplete wholes Zero }
     ensures parities { BalancesAreComplete parities Even }
-{
-}
+{}

@@ -2,7 +2,7 @@
 use Rattle.std.proofs.Common.{◌≡◌, ℕ, zero, suc, ◌*◌, ◌/◌, ◌%◌, ◌<◌, ℤ, pos, unsigned_abs, refl, sym, ap, subst, ◌∙◌, mod-lt, zero-mul, arith}
 use Rattle.std.proofs.Math.Nat.{mul-div_cancel'}
 use Rattle.std.specs.Prelude.{int_div}
-use Rattle.std.specs.Int.{◌∣◌}
+use Rattle.std.specs.Int.{IsGcd, ◌∣◌}
 use Rattle.kinds.specs.Kinds.{euclid, gcd}
 use Rattle.kinds.specs.Euclid.{gcd_is}
 use Rattle.kinds.specs.Wholes.{abs_zero, zero_quotient}
@@ -28,6 +28,26 @@ gcd_step a zero h = absurd (omega arith)
 gcd_step a (suc b) h =
     let less : a % suc b < suc b = mod-lt a h in
     euclid_same (suc b) (suc (a % suc b)) (suc b) (a % suc b) (omega arith) (omega arith)
+
+-- an answer of the recursion: at its end, and after a step
+pub ended_gcd : (a b : ℕ) → b ≡ 0 → a ≡ gcd a b
+ended_gcd a b e = sym (ap (gcd a) e ∙ gcd_end a)
+
+pub stepped_gcd : (a b r : ℕ) → ¬ (b ≡ 0) → r ≡ gcd b (a % b) → r ≡ gcd a b
+stepped_gcd a b r h e = e ∙ sym (gcd_step a b (omega arith))
+
+-- what it is of both: at the end, and after a step
+is_gcd : (a b r : ℕ) → r ≡ gcd a b → IsGcd a b r
+is_gcd a b r e = subst (IsGcd a b) (sym e) (gcd_is a b)
+
+pub stepped_left : (a b r : ℕ) → ¬ (b ≡ 0) → r ≡ gcd b (a % b) → r ∣ a
+stepped_left a b r h e = (is_gcd a b r (stepped_gcd a b r h e)).0
+
+pub stepped_right : (a b r : ℕ) → ¬ (b ≡ 0) → r ≡ gcd b (a % b) → r ∣ b
+stepped_right a b r h e = (is_gcd a b r (stepped_gcd a b r h e)).1
+
+pub stepped_greatest : (a b r : ℕ) → ¬ (b ≡ 0) → r ≡ gcd b (a % b) → (d : ℕ) → d ∣ a → d ∣ b → d ∣ r
+stepped_greatest a b r h e = (is_gcd a b r (stepped_gcd a b r h e)).2
 
 -- it is 0 of two zeros alone
 gcd_none : (a b : ℕ) → gcd a b ≡ 0 → (a ≡ 0) × (b ≡ 0)

@@ -1,8 +1,8 @@
 -- Looking at one column after another is handling by lowest terms.
-use Rattle.std.proofs.Common.{◌≡◌, ℕ, zero, suc, ◌+◌, ◌-◌, ◌<◌, ◌≤◌, Bool, true, false, cond, eqb, ◌≢◌, List, [], ◌∷◌, ◌++◌, Some, None, Ok, Err, length, Option, sym, refl, ap, ◌∙◌, subst, take, arith}
+use Rattle.std.proofs.Common.{◌≡◌, ℕ, zero, suc, ◌+◌, ◌-◌, ◌<◌, ◌≤◌, Bool, true, false, cond, eqb, List, [], ◌∷◌, ◌++◌, Some, None, Ok, Err, length, Option, sym, refl, ap, ◌∙◌, subst, take, arith}
 use native.Mathlib.Decide.{ℕ_discrete}
 use Rattle.std.specs.List.{AllByRecursion}
-use Rattle.std.specs.Option.{option_map_or, is_none}
+use Rattle.std.specs.Option.{option_map_or}
 use Rattle.std.proofs.lemmas.Bool.{cond_both, cond-true, cond-false, eqb-true}
 use Rattle.kinds.specs.Kinds.{Kind, Lawful}
 use Rattle.kinds.specs.Elimination.{kept_under, Handled, kept, balance, passes, State, at, stepped, any_past, leads_below, negated_if, handled, added, starts, eliminated, eliminate}

@@ -2,7 +2,7 @@
 use Rattle.std.specs.Prelude.{◌≡◌, ℕ, ◌+◌, ◌<◌, false, ◌≢◌, if◌then◌else◌, List, [], length, Some, None, Ok}
 use Rattle.std.specs.List.{AllByRecursion}
 use Rattle.kinds.specs.Kinds.{Kind}
-use Rattle.kinds.specs.Elimination.{kept_under, Handled, kept, balance, passes, State, at, stepped, any_past, leads_below, negated_if, handled, added, eliminate}
+use Rattle.kinds.specs.Elimination.{kept_under, kept, balance, passes, State, at, stepped, any_past, leads_below, negated_if, handled, added, eliminate}
 
 -- the lowest term of a row of n weights is in column j
 pub record HasLowest (K : Kind) (n j : ℕ) (r : List K.Num) : Type 0 where

@@ -108,12 +108,10 @@ pub fn balances_are_exact<T: Number>()
     ensures steps { StepsAtLowest T.kind }
     ensures ends { EndsWithoutTerms T.kind }
     ensures clear { StepsClear T.kind }
-{
-}
+{}
 
 /// Whole numbers and parities keep the laws of a kind of number. The call is there for what it says.
 pub fn kinds_are_lawful()
     ensures wholes { Lawful wholes }
     ensures parities { Lawful parities }
-{
-}
+{}
