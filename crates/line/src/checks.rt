@@ -1,5 +1,6 @@
-ghost use Rattle.std.specs.Prelude.{◌≡◌, not, ◌||◌, length, ◌==◌, nat_lt};
+ghost use Rattle.std.specs.Prelude.{◌≡◌, not, ◌||◌, length, ◌==◌, nat_lt, IfErr};
 ghost use Rattle.sheet.specs.Nodes.{count_of};
+ghost use Rattle.sheet.specs.Refusals.{IsOneOf, mount_numbers};
 ghost use Rattle.sheet.specs.Views.{nodes_in};
 ghost use Rattle.sheet.specs.declared.class.Class.TheVariants as Of;
 ghost use Rattle.std.specs.List.{list_any};
@@ -14,12 +15,18 @@ use sheet::sheet::Sheet;
 fn above_one(sensors: &[u8]) -> bool
     ensures { result ≡ list_any (nat_lt 1) sensors.now }
 {
-    sensors.iter().any(|byte| *byte > 1)
+    for byte in sensors {
+        if *byte > 1 {
+            return true;
+        }
+    }
+    false
 }
 
 // Whether the sensor bytes differ in number from the sheet's sensors, or one is neither 0 nor 1.
 pub(crate) fn are_wrong(sheet: &Sheet, sensors: &[u8]) -> bool
-    ensures { result ≡ (not (length sensors.now == count_of Of.Sensor (nodes_in sheet.now)) || list_any (nat_lt 1) sensors.now) }
+    ensures { result ≡ (not (length sensors.now == count_of Of.Sensor (nodes_in sheet.now))
+        || list_any (nat_lt 1) sensors.now) }
 {
     sensors.len() != sheet.sensors() || above_one(sensors)
 }
@@ -44,7 +51,8 @@ fn laden_belt<B: Bank>(bank: &B) -> Option<u16>
 
 // Whether the sheet may be mounted over the bank.
 pub(crate) fn check_mount<B: Bank>(bank: &B, sheet: &Sheet) -> Result<(), Fault>
-    ensures { result ≡ mount_test (B.belts bank.now) (nodes_in sheet.now) }
+    ensures exact { result ≡ mount_test (B.belts bank.now) (nodes_in sheet.now) }
+    ensures numbers { IfErr result (IsOneOf mount_numbers) }
 {
     if bank.size() != sheet.belts() {
         return Err(Refusal::BeltsDiffer.into());
