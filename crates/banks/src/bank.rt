@@ -5,17 +5,17 @@ ghost use Rattle.banks.specs.Banks.{numbered, altered};
 // How many belts a bank has at most.
 pub(crate) const MOST: usize = 32;
 
-// A bank: 1 to 32 belts, numbered from 0. Each call is a belt's call with a number, and alters that belt alone.
-// A number past the end gets 0, no or absent, and alters no belt.
-//
-// Whoever brings a bank of their own writes `belts`, which gives for each of its states the list of its belts' models,
-// and shows that the list has 1 to 32 belts within the limits of a belt (the two laws), that each question answers from
-// the list, and that each call that alters answers from the list as it was and leaves it with that one belt altered.
-// All that is built on a bank is proved from `belts` alone, and so holds of that bank too.
+/// A bank: 1 to 32 belts, numbered from 0. Each call is a belt's call with a number, and alters that belt alone.
+/// A number past the end gets 0, no or absent, and alters no belt.
+///
+/// Whoever brings a bank of their own writes `belts`, which gives for each of its states the list of its belts' models,
+/// and shows that the list has 1 to 32 belts within the limits of a belt (the two laws), that each question answers from
+/// the list, and that each call that alters answers from the list as it was and leaves it with that one belt altered.
+/// All that is built on a bank is proved from `belts` alone, and so holds of that bank too.
 pub trait Bank {
     ghost belts: { Self → List Model };
 
-    // How many belts there are, always the same.
+    /// How many belts there are, always the same.
     fn size(&self) -> usize
         ensures { result ≡ length (belts self.now) };
 

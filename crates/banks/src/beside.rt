@@ -6,7 +6,7 @@ ghost use Rattle.banks.specs.Standing.{beside_each};
 
 use crate::bank::{Bank, MOST};
 
-// Two banks side by side: the second's belts are numbered after the first's, and the first 32 are shown.
+/// Two banks side by side: the second's belts are numbered after the first's, and the first 32 are shown.
 #[derive(Clone, Copy, Debug, Drop)]
 pub struct Beside<X, Y> {
     first: X,
@@ -21,7 +21,7 @@ pub(crate) enum Side {
 }
 
 impl<X: Bank, Y: Bank> Beside<X, Y> {
-    // The two banks with the words they hold.
+    /// The two banks with the words they hold.
     pub fn new(first: X, second: Y) -> Self
         ensures { (result.first ≡ first) × (result.second ≡ second) }
     {

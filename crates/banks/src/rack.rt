@@ -5,7 +5,7 @@ use belts::row::PackedRow;
 
 pub mod calls;
 
-// A rack of 1 to 32 packed rows: the first `size` rows of the array are in use.
+/// A rack of 1 to 32 packed rows: the first `size` rows of the array are in use.
 #[derive(Clone, Copy, Debug)]
 pub struct Rack {
     rows: [PackedRow; MOST],

@@ -4,14 +4,14 @@ ghost use Rattle.std.proofs.Common.{rules};
 use crate::bank::Bank;
 use belts::belt::Belt;
 
-// One belt as a bank.
+/// One belt as a bank.
 #[derive(Clone, Copy, Debug, Drop)]
 pub struct Single<B> {
     belt: B,
 }
 
 impl<B: Belt> Single<B> {
-    // The belt with the words it holds.
+    /// The belt with the words it holds.
     pub fn new(belt: B) -> Self
         ensures { result.belt ≡ belt }
     {

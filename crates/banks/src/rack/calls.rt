@@ -13,7 +13,7 @@ use belts::belt::Belt;
 use belts::row::PackedRow;
 
 impl Rack {
-    // Empty rows alike in places and width. A figure outside 1 to 32 belts, 1 to 16 places or 0 to 4 bits counts as the nearer end.
+    /// Empty rows alike in places and width. A figure outside 1 to 32 belts, 1 to 16 places or 0 to 4 bits counts as the nearer end.
     pub fn new(belts: usize, places: u8, width: u8) -> Self
         ensures { rack_of result ≡ racked belts places width }
     {

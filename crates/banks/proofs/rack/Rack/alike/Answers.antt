@@ -1,4 +1,4 @@
-use Rattle.banks.specs.Rows.{rows_alike}
+use Rattle.banks.proofs.RackRows.{rows_alike}
 use Rattle.banks.proofs.rack.Rack.alike.Goals as goal
 
 pub returns : goal.returns

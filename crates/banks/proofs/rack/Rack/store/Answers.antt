@@ -1,5 +1,5 @@
 use Rattle.std.proofs.Common.{arith}
-use Rattle.banks.specs.Rows.{row_set}
+use Rattle.banks.proofs.RackRows.{row_set}
 use Rattle.banks.proofs.rack.Rack.store.Goals as goal
 
 pub returns-then-i-self : goal.returns-then-i-self
