@@ -1,10 +1,11 @@
 // The printed list.
-ghost use Rattle.std.specs.Prelude.{◌≡◌, ◌<◌, true, false, ◌++◌, map, take, IfOk, IfErr};
+ghost use Rattle.std.specs.Prelude.{◌≡◌, ◌<◌, ◌≤◌, true, false, ◌++◌, map, take, length, IfOk, IfErr};
 ghost use Rattle.std.specs.List.{list_any, range_with_len, flat_map};
 ghost use Rattle.printing.specs.Pages.{text_on, gap, RoomFor};
 ghost use Rattle.printing.specs.Printing.{line_of, name_of, row_text, rows_of, list_text, is_large, list_unfit, print_list};
 ghost use Rattle.printing.specs.Reading.{reading, listed};
-ghost use Rattle.printing.specs.Words.{UnfitList};
+ghost use Rattle.printing.specs.Words.{UnfitList, fault};
+ghost use Rattle.sheet.specs.Refusals.{IsOneOf, print_numbers};
 
 use crate::page::Page;
 use sheet::fault::{Fault, Refusal};
@@ -80,8 +81,10 @@ struct Listing<'a> {
 impl<'a> Listing<'a> {
     // The list, if it fits.
     fn fitting(belts: usize, balances: usize, weights: &'a [i32]) -> Result<Listing<'a>, Fault>
-        ensures fits { IfOk result (λ l. (l.belts ≡ belts) × (l.balances ≡ balances) × (l.weights.now ≡ weights.now)) }
-        ensures unfit { IfErr result (λ f. (f ≡ record { refusal = UnfitList; place = 0 }) × (list_unfit belts balances weights.now ≡ true)) }
+        ensures fits { IfOk result (λ l. (l.belts ≡ belts) × (l.balances ≡ balances)
+            × (l.weights.now ≡ weights.now)) }
+        ensures unfit { IfErr result (λ f. (f ≡ fault UnfitList 0)
+            × (list_unfit belts balances weights.now ≡ true)) }
     {
         if is_unfit(belts, balances, weights) {
             return Err(Refusal::UnfitList.into());
@@ -96,7 +99,8 @@ impl<'a> Listing<'a> {
     // The line of the belts' names.
     fn push_names(&self, page: &mut Page)
         requires { RoomFor page.old (line_of (map name_of (range_with_len 0 self.now.belts))) }
-        ensures { text_on page.new ≡ text_on page.old ++ line_of (map name_of (range_with_len 0 self.now.belts)) }
+        ensures { text_on page.new
+            ≡ text_on page.old ++ line_of (map name_of (range_with_len 0 self.now.belts)) }
     {
         for belt in 0..self.belts {
             push_gap(page, belt);
@@ -107,8 +111,10 @@ impl<'a> Listing<'a> {
 
     // A line for each balance.
     fn push_rows(&self, page: &mut Page)
-        requires { RoomFor page.old (flat_map row_text (rows_of self.now.belts self.now.balances self.now.weights.now)) }
-        ensures { text_on page.new ≡ text_on page.old ++ flat_map row_text (rows_of self.now.belts self.now.balances self.now.weights.now) }
+        requires { RoomFor page.old (flat_map row_text
+            (rows_of self.now.belts self.now.balances self.now.weights.now)) }
+        ensures { text_on page.new ≡ text_on page.old ++ flat_map row_text
+            (rows_of self.now.belts self.now.balances self.now.weights.now) }
     {
         let mut rest = self.weights;
         for _ in 0..self.balances {
@@ -120,7 +126,8 @@ impl<'a> Listing<'a> {
 
     // The page with the whole list.
     fn page(&self) -> Page
-        ensures { text_on result ≡ list_text self.now.belts self.now.balances self.now.weights.now }
+        ensures { text_on result
+            ≡ list_text self.now.belts self.now.balances self.now.weights.now }
     {
         let mut page = Page::new();
         self.push_names(&mut page);
@@ -130,24 +137,32 @@ impl<'a> Listing<'a> {
 
     // Writes the list.
     fn print(&self, text: &mut [u8]) -> Result<usize, Fault>
-        ensures exact { record { answer = result; memory = text.new } ≡ print_list self.now.belts self.now.balances self.now.weights.now text.old }
-        ensures readback { IfOk result (λ n. reading (take n text.new) ≡ listed self.now.belts self.now.balances self.now.weights.now) }
+        ensures exact { record { answer = result; memory = text.new }
+            ≡ print_list self.now.belts self.now.balances self.now.weights.now text.old }
+        ensures readback { IfOk result (λ n. reading (take n text.new)
+            ≡ listed self.now.belts self.now.balances self.now.weights.now) }
+        ensures within { IfOk result (λ n. n ≤ length text.new) }
+        ensures numbers { IfErr result (IsOneOf print_numbers) }
     {
         self.page().copy_to(text)
     }
 }
 
-// Writes the list of the balances' weights into the first of the caller's bytes, and answers how many bytes it has: a line
-// of the belts' names, then a line of `belts` weights for each balance. Later bytes stay; a list that is too large, or text
-// memory that is too short, is refused, and then nothing changes.
+/// Writes the list of the balances' weights into the first of the caller's bytes, and answers how many bytes it has: a line
+/// of the belts' names, then a line of `belts` weights for each balance. Later bytes stay; a list that is too large, or text
+/// memory that is too short, is refused, and then nothing changes.
 pub fn print_list(
     belts: usize,
     balances: usize,
     weights: &[i32],
     text: &mut [u8],
 ) -> Result<usize, Fault>
-    ensures exact { record { answer = result; memory = text.new } ≡ print_list belts balances weights.now text.old }
-    ensures readback { IfOk result (λ n. reading (take n text.new) ≡ listed belts balances weights.now) }
+    ensures exact { record { answer = result; memory = text.new }
+        ≡ print_list belts balances weights.now text.old }
+    ensures readback { IfOk result (λ n. reading (take n text.new)
+        ≡ listed belts balances weights.now) }
+    ensures within { IfOk result (λ n. n ≤ length text.new) }
+    ensures numbers { IfErr result (IsOneOf print_numbers) }
 {
     let list = Listing::fitting(belts, balances, weights)?;
     list.print(text)

@@ -1,7 +1,8 @@
 // The refusal line.
-ghost use Rattle.std.specs.Prelude.{◌≡◌};
+ghost use Rattle.std.specs.Prelude.{◌≡◌, ◌≤◌, length, IfOk, IfErr};
 ghost use Rattle.printing.specs.Pages.{text_on};
 ghost use Rattle.printing.specs.Printing.{refusal_line, print_refusal};
+ghost use Rattle.sheet.specs.Refusals.{IsOneOf, refusal_line_numbers};
 
 use crate::page::Page;
 use sheet::fault::Fault;
@@ -19,10 +20,12 @@ fn refusal_page(number: u32, place: u32) -> Page
     page
 }
 
-// Writes the line of a refusal, `refused N at P`, into the first of the caller's bytes, and answers how many bytes it has.
-// Later bytes stay; text memory that is too short is refused, and then nothing changes.
+/// Writes the line of a refusal, `refused N at P`, into the first of the caller's bytes, and answers how many bytes it has.
+/// Later bytes stay; text memory that is too short is refused, and then nothing changes.
 pub fn print_refusal(fault: Fault, text: &mut [u8]) -> Result<usize, Fault>
-    ensures { record { answer = result; memory = text.new } ≡ print_refusal fault text.old }
+    ensures exact { record { answer = result; memory = text.new } ≡ print_refusal fault text.old }
+    ensures within { IfOk result (λ n. n ≤ length text.new) }
+    ensures numbers { IfErr result (IsOneOf refusal_line_numbers) }
 {
     refusal_page(u32::from(fault.refusal.number()), u32::from(fault.place)).copy_to(text)
 }

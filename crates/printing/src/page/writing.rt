@@ -1,7 +1,8 @@
-ghost use Rattle.std.specs.Prelude.{◌≡◌, [], ◌∷◌, ◌++◌, Ok, decimal};
+ghost use Rattle.std.specs.Prelude.{◌≡◌, ◌≤◌, [], ◌∷◌, ◌++◌, length, Ok, IfOk, IfErr, decimal};
 ghost use Rattle.std.specs.Fmt.{signed_decimal};
 ghost use Rattle.printing.specs.Pages.{text_on, RoomFor};
 ghost use Rattle.printing.specs.Printing.{in_text};
+ghost use Rattle.printing.specs.Words.{ShortText, fault};
 
 use crate::page::{MOST_WRITTEN, Page};
 use sheet::fault::{Fault, Refusal};
@@ -70,7 +71,10 @@ impl Page {
 
     // The text into the first of the caller's bytes, and how many bytes it has.
     pub(crate) fn copy_to(&self, text: &mut [u8]) -> Result<usize, Fault>
-        ensures { record { answer = result; memory = text.new } ≡ in_text (Ok (text_on self.now)) text.old }
+        ensures exact { record { answer = result; memory = text.new }
+            ≡ in_text (Ok (text_on self.now)) text.old }
+        ensures within { IfOk result (λ n. n ≤ length text.new) }
+        ensures short { IfErr result (λ f. f ≡ fault ShortText 0) }
     {
         let len = self.len;
         if text.len() < len {
