@@ -1,5 +1,5 @@
 // The printed list.
-ghost use Rattle.std.specs.Prelude.{◌≡◌, ◌<◌, ◌≤◌, true, false, ◌++◌, map, take, length, IfOk, IfErr};
+ghost use Rattle.std.specs.Prelude.{◌≡◌, ◌<◌, ◌≤◌, true, false, ◌++◌, map, take, length, IsOk, IfOk, IfErr};
 ghost use Rattle.std.specs.List.{list_any, range_with_len, flat_map};
 ghost use Rattle.printing.specs.Pages.{text_on, gap, RoomFor};
 ghost use Rattle.printing.specs.Printing.{line_of, name_of, row_text, rows_of, list_text, is_large, list_unfit, print_list};
@@ -143,6 +143,7 @@ impl<'a> Listing<'a> {
             ≡ listed self.now.belts self.now.balances self.now.weights.now) }
         ensures within { IfOk result (λ n. n ≤ length text.new) }
         ensures numbers { IfErr result (IsOneOf print_numbers) }
+        ensures enough { 9504 ≤ length text.old → IsOk result }
     {
         self.page().copy_to(text)
     }
@@ -163,6 +164,8 @@ pub fn print_list(
         ≡ listed belts balances weights.now) }
     ensures within { IfOk result (λ n. n ≤ length text.new) }
     ensures numbers { IfErr result (IsOneOf print_numbers) }
+    ensures enough { list_unfit belts balances weights.now ≡ false
+        → 9504 ≤ length text.old → IsOk result }
 {
     let list = Listing::fitting(belts, balances, weights)?;
     list.print(text)

@@ -1,5 +1,5 @@
 // The refusal line.
-ghost use Rattle.std.specs.Prelude.{◌≡◌, ◌≤◌, length, IfOk, IfErr};
+ghost use Rattle.std.specs.Prelude.{◌≡◌, ◌≤◌, length, IsOk, IfOk, IfErr};
 ghost use Rattle.printing.specs.Pages.{text_on};
 ghost use Rattle.printing.specs.Printing.{refusal_line, print_refusal};
 ghost use Rattle.sheet.specs.Refusals.{IsOneOf, refusal_line_numbers};
@@ -26,6 +26,7 @@ pub fn print_refusal(fault: Fault, text: &mut [u8]) -> Result<usize, Fault>
     ensures exact { record { answer = result; memory = text.new } ≡ print_refusal fault text.old }
     ensures within { IfOk result (λ n. n ≤ length text.new) }
     ensures numbers { IfErr result (IsOneOf refusal_line_numbers) }
+    ensures enough { 9504 ≤ length text.old → IsOk result }
 {
     refusal_page(u32::from(fault.refusal.number()), u32::from(fault.place)).copy_to(text)
 }

@@ -1,4 +1,4 @@
-ghost use Rattle.std.specs.Prelude.{◌≡◌, ◌≤◌, [], ◌∷◌, ◌++◌, length, Ok, IfOk, IfErr, decimal};
+ghost use Rattle.std.specs.Prelude.{◌≡◌, ◌≤◌, [], ◌∷◌, ◌++◌, length, Ok, IsOk, IfOk, IfErr, decimal};
 ghost use Rattle.std.specs.Fmt.{signed_decimal};
 ghost use Rattle.printing.specs.Pages.{text_on, RoomFor};
 ghost use Rattle.printing.specs.Printing.{in_text};
@@ -75,6 +75,7 @@ impl Page {
             ≡ in_text (Ok (text_on self.now)) text.old }
         ensures within { IfOk result (λ n. n ≤ length text.new) }
         ensures short { IfErr result (λ f. f ≡ fault ShortText 0) }
+        ensures enough { 9504 ≤ length text.old → IsOk result }
     {
         let len = self.len;
         if text.len() < len {
