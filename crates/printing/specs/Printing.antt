@@ -1,8 +1,8 @@
 -- The printed list and the refusal line: what the printing calls answer and write.
-use Rattle.std.specs.Prelude.{ℕ, zero, suc, ◌*◌, Bool, ◌||◌, ltb, List, [], ◌∷◌, ◌++◌, map, length, take, drop, codes, ℤ, nat_abs, Result, Ok}
+use Rattle.std.specs.Prelude.{ℕ, zero, suc, ◌*◌, Bool, ◌||◌, ltb, List, [], ◌∷◌, ◌++◌, map, length, take, drop, ℤ, nat_abs, Result, Ok}
 use Rattle.std.specs.List.{flat_map, list_any, range_with_len}
 use Rattle.std.specs.Fmt.{decimal, signed_decimal}
-use Rattle.printing.specs.Words.{Fault, UnfitList, ShortText, Outcome, number, and_then, refuse_if, written}
+use Rattle.printing.specs.Words.{Fault, UnfitList, ShortText, Outcome, words, and_then, refuse_if, written}
 
 -- one blank between neighbours, and a line feed at the end
 abbrev pub line_of : List (List ℕ) → List ℕ
@@ -27,13 +27,9 @@ row_text ws = line_of (map signed_decimal ws)
 abbrev pub list_text : ℕ → ℕ → List ℤ → List ℕ
 list_text belts balances weights = line_of (map name_of (range_with_len 0 belts)) ++ flat_map row_text (rows_of belts balances weights)
 
--- the line of a refusal's number and place
-abbrev pub refusal_line : ℕ → ℕ → List ℕ
-refusal_line n p = codes "refused " ++ (decimal n ++ (codes " at " ++ (decimal p ++ 10 ∷ [])))
-
--- the line of a refusal
+-- the line of a refusal: its words, and a line feed
 abbrev pub refusal_text : Fault → List ℕ
-refusal_text f = refusal_line (number f.refusal) f.place
+refusal_text f = words f ++ 10 ∷ []
 
 -- a weight passes 1,000,000 either way
 abbrev pub is_large : ℤ → Bool

@@ -1,16 +1,18 @@
 // The refusal line.
 ghost use Rattle.std.specs.Prelude.{◌≡◌, ◌≤◌, length, IsOk, IfOk, IfErr};
 ghost use Rattle.printing.specs.Pages.{text_on};
-ghost use Rattle.printing.specs.Printing.{refusal_line, print_refusal};
+ghost use Rattle.printing.specs.Printing.{refusal_text, print_refusal};
 ghost use Rattle.sheet.specs.Refusals.{IsOneOf, refusal_line_numbers};
 
 use crate::page::Page;
 use sheet::fault::Fault;
 
 // The page with the line of a refusal's number and place.
-fn refusal_page(number: u32, place: u32) -> Page
-    ensures { text_on result ≡ refusal_line number place }
+fn refusal_page(fault: Fault) -> Page
+    ensures { text_on result ≡ refusal_text fault }
 {
+    let number = u32::from(fault.refusal.number());
+    let place = u32::from(fault.place);
     let mut page = Page::new();
     page.push_text(b"refused ");
     page.push_number(number);
@@ -28,5 +30,5 @@ pub fn print_refusal(fault: Fault, text: &mut [u8]) -> Result<usize, Fault>
     ensures numbers { IfErr result (IsOneOf refusal_line_numbers) }
     ensures enough { 9504 ≤ length text.old → IsOk result }
 {
-    refusal_page(u32::from(fault.refusal.number()), u32::from(fault.place)).copy_to(text)
+    refusal_page(fault).copy_to(text)
 }
