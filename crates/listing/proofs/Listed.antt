@@ -1,5 +1,5 @@
 -- From what derivation wrote and what printing made of it to the list of a sheet's balances.
-use Rattle.std.proofs.Common.{◌≡◌, ℕ, zero, suc, ◌*◌, ◌≤◌, Bool, true, false, ltb, List, [], ◌∷◌, ◌++◌, map, length, take, drop, ℤ, slice_index_or, IfOk, Some, Ok, Err, count_by, Result, nat_abs, sym, refl, ap, ◌∙◌, subst, ap₂, arith, mul_comm}
+use Rattle.std.proofs.Common.{◌≡◌, ℕ, zero, suc, ◌*◌, ◌≤◌, Bool, true, false, ltb, List, [], ◌∷◌, ◌++◌, map, length, take, drop, ℤ, slice_index_or, Some, Ok, Err, count_by, Result, nat_abs, sym, refl, ap, ◌∙◌, ap₂, arith, mul_comm}
 use Rattle.std.specs.List.{list_any, range_with_len, flat_map, AllByRecursion}
 use Rattle.std.proofs.lemmas.Bool.{le-ltb, or_from}
 use Rattle.std.proofs.lemmas.List.{append-nil, length-append, take_at}
@@ -7,7 +7,7 @@ use Rattle.std.proofs.lemmas.List.Elements.{All-from_recursion}
 use Rattle.std.proofs.lemmas.List.Folds.{list_any-append, list_any_none}
 use Rattle.sheet.specs.declared.node.Node.{Node}
 use Rattle.sheet.specs.declared.fault.Fault.{Fault}
-use Rattle.sheet.specs.declared.fault.Refusal.TheVariants.{ShortWeights, UnfitList}
+use Rattle.sheet.specs.declared.fault.Refusal.TheVariants.{ShortWeights}
 use Rattle.sheet.specs.Nodes.{is_belt}
 use Rattle.sheet.specs.Outcomes.{Outcome, written}
 use Rattle.sheet.specs.Refusals.{and_then, refuse_if}
@@ -18,7 +18,7 @@ use Rattle.flows.specs.Completeness.{Zero, Complete, gain}
 use Rattle.flows.specs.Derivation.{derived, derive}
 use Rattle.flows.proofs.Derived.{wholes_count, derived_complete}
 use Rattle.derivation.proofs.Deriving.{length_joined, rows_back}
-use Rattle.printing.specs.Printing.{line_of, name_of, rows_of, row_text, is_large, list_unfit, list_text, in_text, print_list}
+use Rattle.printing.specs.Printing.{line_of, name_of, rows_of, row_text, is_large, list_unfit, list_text}
 use Rattle.printing.specs.Reading.{reading, listed}
 use Rattle.printing.proofs.Sizes.{fits, names_room, rows_room}
 use Rattle.listing.specs.Listing.{list_of_nodes}
@@ -81,44 +81,35 @@ module _ (ns : List Node) (k : ℕ) (after : List ℤ) (f : Found ns k after) (f
       let all = joined f.balances in
       ap (rows_of n (length f.balances)) (sym (append-nil all)) ∙ same_rows n (length f.balances) (all ++ []) ∙ rows_back n f.balances [] complete.sized
 
-  pub fit : list_unfit n k after ≡ false
+  fit : list_unfit n k after ≡ false
   fit =
       let large : list_any is_large (take (n * k) after) ≡ false = ap (λ xs. list_any is_large (take (n * k) xs)) f.stand ∙ ap (list_any is_large) (take_at (joined f.balances) f.rest (n * k) size) ∙ none_in_rows f.balances complete.small in
       or_from _ _ (le-ltb 32 n few)
       (or_from _ _ (le-ltb 32 k (omega (arith, f.many, complete.few, few)))
       (or_from _ _ (le-ltb (length after) (n * k) (omega (arith, ap length f.stand, length-append (joined f.balances) f.rest, size))) large))
 
-  pub list_found : list_of_nodes ns ≡ Ok (list_text n k after)
+  list_found : list_of_nodes ns ≡ Ok (list_text n k after)
   list_found =
       let names = line_of (map name_of (range_with_len 0 n)) in
       ap (λ r. and_then r (λ bs. Ok (list_text n (length bs) (joined bs)))) f.derives
       ∙ ap (λ rows. Ok (names ++ flat_map row_text rows)) (rows_alone ∙ sym rows_found)
 
-  text_short : length (list_text n k after) ≤ 9504
-  text_short =
-      let f = fits n k after fit in
-      omega (arith, length-append (line_of (map name_of (range_with_len 0 n))) (flat_map row_text (rows_of n k after)), names_room n k after f, rows_room n k after f)
+  -- so many belts are those of the nodes
+  module _ (belts : ℕ) (e : belts ≡ n) where
+    pub fit_of : list_unfit belts k after ≡ false
+    fit_of = ap (λ j. list_unfit j k after) e ∙ fit
 
-  pub list_short : (bytes : List ℕ) → list_of_nodes ns ≡ Ok bytes → length bytes ≤ 9504
-  list_short bytes e = subst (λ xs. length xs ≤ 9504) (same (sym list_found ∙ e)) text_short
-    where
-      same : {x y : List ℕ} → ◌≡◌ {A = Result (List ℕ) Fault} (Ok x) (Ok y) → x ≡ y
-      same h = cc
+    pub list : list_of_nodes ns ≡ Ok (list_text belts k after)
+    list = list_found ∙ ap (λ j. Ok (list_text j k after)) (sym e)
 
-  module _ (m : ℕ) (belts : m ≡ n) (r : Result ℕ Fault) where
-    pub exactly : (list new : List ℕ) → ◌≡◌ {A = Outcome ℕ ℕ} (record { answer = r; memory = new }) (print_list m k after list)
-        → ◌≡◌ {A = Outcome ℕ ℕ} (record { answer = r; memory = new }) (in_text (list_of_nodes ns) list)
-    exactly list new e =
-        e ∙ ap (λ j. print_list j k after list) belts
-        ∙ ap (λ b. in_text (refuse_if b UnfitList 0 (Ok (list_text n k after))) list) fit ∙ ap (λ o. in_text o list) (sym list_found)
+    pub short : length (list_text belts k after) ≤ 9504
+    short =
+        let f = fits belts k after fit_of in
+        omega (arith, length-append (line_of (map name_of (range_with_len 0 belts))) (flat_map row_text (rows_of belts k after)), names_room belts k after f, rows_room belts k after f)
 
-    pub told : (new : List ℕ) → IfOk r (λ j. reading (take j new) ≡ listed m k after) → IfOk r (λ j. Tells ns (take j new))
-    told new h = by r h
-      where
-        by : (r : Result ℕ Fault) → IfOk r (λ j. reading (take j new) ≡ listed m k after) → IfOk r (λ j. Tells ns (take j new))
-        by (Err x) h = tt
-        by (Ok j) h = record {
-          balances = f.balances;
-          reads = h ∙ ap (λ i. listed i k after) belts ∙ ap (λ rows. record { names = map Some (range_with_len 0 n); rows = map (map Some) rows }) rows_found;
-          complete = complete;
-        }
+    pub tells : (bytes : List ℕ) → reading bytes ≡ listed belts k after → Tells ns bytes
+    tells bytes h = record {
+      balances = f.balances;
+      reads = h ∙ ap (λ i. listed i k after) e ∙ ap (λ rows. record { names = map Some (range_with_len 0 n); rows = map (map Some) rows }) rows_found;
+      complete = complete;
+    }

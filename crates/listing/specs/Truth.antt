@@ -13,8 +13,9 @@ pub record Tells (ns : List Node) (list : List ℕ) : Type 0 where
   pub reads : reading list ≡ record { names = map Some (range_with_len 0 (count_by is_belt ns)); rows = map (map Some) balances }
   pub complete : Complete Zero (count_by is_belt ns) (gain ns) balances
 
--- the text is a sheet of some nodes, and the list tells this of them
+-- the text is a sheet of some nodes and of no others, and the list tells this of them
 pub record Truth (text list : List ℕ) : Type 0 where
   pub nodes : List Node
   pub sheet : SheetOf text nodes
+  pub only : (ms : List Node) → SheetOf text ms → ms ≡ nodes
   pub tells : Tells nodes list
