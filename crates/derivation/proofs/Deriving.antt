@@ -13,7 +13,7 @@ use Rattle.sheet.specs.Nodes.{is_belt, is_free}
 use Rattle.sheet.specs.Wires.{bit}
 use Rattle.sheet.specs.Outcomes.{Outcome, written}
 use Rattle.sheet.specs.Refusals.{and_then, refuse_if, IsOneOf, derive_numbers}
-use Rattle.sheet.proofs.Numbers.{Within, then_within, if_within}
+use Rattle.sheet.proofs.Numbers.{Within, if_within, written_within}
 use Rattle.sheet.proofs.Refusals.{ok_err, passed_if}
 use Rattle.terms.specs.Forms.{Form}
 use Rattle.forms.specs.Gates.{large, together, node_form, limits_from, limits}
@@ -30,6 +30,7 @@ use Rattle.flows.specs.Derivation.{as_written, balances_of, derived, derive}
 use Rattle.flows.specs.Completeness.{Complete, gain, AllLeadAbove}
 use Rattle.flows.proofs.Complete.{CountsZero}
 use Rattle.flows.proofs.Derived.{flows_length, derived_complete, derived_signed}
+use Rattle.flows.proofs.Numbered.{derived_within}
 use Rattle.derivation.specs.declared.table.Table.{Table}
 use Rattle.derivation.specs.Tables.{rows_in, tested, tested_first, Tabled, Tabulated, by_belt, Rowed}
 
@@ -193,45 +194,12 @@ module _ {K : Kind} {Z : ℤ → Type 0} (C : CountsZero K Z) (ns : List Node) (
   signed = read_back K ns weights after AllLeadAbove (λ us f. ((derived_complete C ns us f).sized, derived_signed C ns us f))
 
 -- ---- the numbers with which it may refuse
-module _ (numbers : List ℕ) (long : Contains numbers 15) (together_long : Contains numbers 16) (large_one : Contains numbers 17) where
-  limits_from_within : (sofar k : ℕ) (fs : List Form) (ns : List Node) → Within numbers (limits_from sofar k fs ns)
-  limits_from_within sofar k fs [] = tt
-  limits_from_within sofar k fs (node ∷ ns) =
-      then_within numbers (together sofar (length fs) node (node_form k fs node)) (λ more. limits_from more (k + bit (is_free node)) (fs ++ node_form k fs node ∷ []) ns)
-      (one node (node_form k fs node)) (λ more. limits_from_within more (k + bit (is_free node)) (fs ++ node_form k fs node ∷ []) ns)
-    where
-      one : (node : Node) (p : Form) → Within numbers (together sofar (length fs) node p)
-      one (Free s) p = tt
-      one (Belt o t) p = tt
-      one (Gate g) p =
-          if_within numbers (ltb 24 (length p)) LongForm (length fs) _ long
-          (if_within numbers (ltb 2048 (sofar + length p)) LongForms (length fs) _ together_long
-          (if_within numbers (large p) LargeCoefficient (length fs) (Ok (sofar + length p)) large_one tt))
-
-  limits_within : (ns : List Node) → Within numbers (limits ns)
-  unfolding limits
-  limits_within ns = limits_from_within 0 0 [] ns
-
 module _ (K : Kind) (ns : List Node) (weights after : List ℤ) where
-  as_written_within : (r : Result (List (List K.Num)) ℕ) → Within derive_numbers (as_written K r)
-  as_written_within (Ok ws) = tt
-  as_written_within (Err b) = (5, omega arith, refl)
-
-  balances_within : (flows : List Form) → Within derive_numbers (balances_of K flows)
-  unfolding balances_of
-  balances_within flows =
-      if_within derive_numbers (ltb 256 (length (columns_of flows))) ManyColumns 0 (as_written K (eliminate K (length (columns_of flows)) (map (map K.counts) (table flows)))) (4, omega arith, refl)
-      (as_written_within (eliminate K (length (columns_of flows)) (map (map K.counts) (table flows))))
-
   answer_within : Within derive_numbers (derive K ns weights).answer
   answer_within =
-      let d = if_within derive_numbers (ltb (length weights) (count_by is_belt ns * count_by is_belt ns)) ShortWeights 0 (derived K ns) (0, omega arith, refl)
-      (then_within derive_numbers (limits ns) (λ _. balances_of K (flows_of ns)) (limits_within derive_numbers (1, omega arith, refl) (2, omega arith, refl) (3, omega arith, refl) ns) (λ _. balances_within (flows_of ns))) in
-      told (refuse_if (ltb (length weights) (count_by is_belt ns * count_by is_belt ns)) ShortWeights 0 (derived K ns)) d
-    where
-      told : (r : Result (List (List ℤ)) Fault) → Within derive_numbers r → Within derive_numbers (written length (flat_map (λ w. w)) r weights).answer
-      told (Ok us) h = tt
-      told (Err e) h = h
+      written_within derive_numbers length (flat_map (λ w. w)) (refuse_if (ltb (length weights) (count_by is_belt ns * count_by is_belt ns)) ShortWeights 0 (derived K ns)) weights
+      (if_within derive_numbers (ltb (length weights) (count_by is_belt ns * count_by is_belt ns)) ShortWeights 0 (derived K ns) (0, omega arith, refl)
+      (derived_within derive_numbers (1, omega arith, refl) (2, omega arith, refl) (3, omega arith, refl) (4, omega arith, refl) (5, omega arith, refl) K ns))
 
   pub within : (r : Result ℕ Fault) → ◌≡◌ {A = Outcome ℕ ℤ} (record { answer = r; memory = after }) (derive K ns weights) → IfErr r (IsOneOf derive_numbers)
   within r e = subst (Within derive_numbers) (sym (ap (λ o. o.answer) e)) answer_within

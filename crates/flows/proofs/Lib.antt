@@ -4,3 +4,4 @@ pub mod Flowing
 pub mod Spread
 pub mod Complete
 pub mod Derived
+pub mod Numbered

@@ -5,6 +5,7 @@ use Rattle.std.specs.Option.{ok_or}
 use Rattle.sheet.specs.declared.fault.Fault.{Fault}
 use Rattle.sheet.specs.declared.fault.Refusal.{Refusal}
 use Rattle.sheet.specs.Refusals.{number, fault, IsOneOf, and_then, refuse_if, refuse_at}
+use Rattle.sheet.specs.Outcomes.{written}
 
 -- what a call may answer, where it may refuse with these numbers alone
 abbrev pub Within : {A : Type 0} → List ℕ → Result A Fault → Type 0
@@ -26,3 +27,7 @@ module _ (ns : List ℕ) where
   pub or_within : {A : Type 0} (o : Option A) (r : Refusal) (p : ℕ) → Contains ns (number r) → Within ns (ok_or o (fault r p))
   or_within None r p c = c
   or_within (Some x) r p c = tt
+
+  pub written_within : {X R M : Type 0} (tells : X → R) (writes : X → List M) (r : Result X Fault) (memory : List M) → Within ns r → Within ns (written tells writes r memory).answer
+  written_within tells writes (Ok x) memory h = tt
+  written_within tells writes (Err e) memory h = h

@@ -6,6 +6,6 @@ use Rattle.kinds.specs.Elimination.{handled, eliminated, eliminate}
 use Rattle.flows.specs.Derivation.{balances_of}
 use Rattle.examples.proofs.examples_hold.Goals as goal
 
-pub returns-clause-holds : goal.returns-clause-holds
+pub returns : goal.returns
 unfolding digits forms_of limits gcd handled eliminated eliminate balances_of
-returns-clause-holds c = (refl, (refl, (refl, (refl, (refl, (refl, (refl, (refl, (refl, (refl, tt))))))))))
+returns c = (refl, (refl, (refl, (refl, (refl, (refl, (refl, (refl, (refl, (refl, tt))))))))))
