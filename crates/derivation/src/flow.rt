@@ -31,11 +31,11 @@ impl Worked<'_> {
     fn entering(&self, ports: Ports, work: &mut Work) -> usize
         ensures front { let fs = forms_in self.now.forms.now in
             InFront 624
-              (and_form (slice_index_or fs ports.offer []) (slice_index_or fs ports.room []))
-              work.old work.new result }
+            (and_form (slice_index_or fs ports.offer []) (slice_index_or fs ports.room []))
+            work.old work.new result }
         ensures small { let fs = forms_in self.now.forms.now in
             norm (and_form (slice_index_or fs ports.offer []) (slice_index_or fs ports.room []))
-              < 2 ^ 62 }
+            < 2 ^ 62 }
     {
         and_form(
             self.forms.line(ports.offer),
@@ -48,7 +48,8 @@ impl Worked<'_> {
     // The flow that belongs to the ports, in the first records of `work`: how many terms it has.
     fn passing(&self, ports: Ports, work: &mut Work) -> usize
         ensures within { result ≤ length work.new }
-        ensures form { form_in (take result work.new) ≡ flow_by (forms_in self.now.forms.now) (ports_in ports) }
+        ensures form { form_in (take result work.new)
+            ≡ flow_by (forms_in self.now.forms.now) (ports_in ports) }
     {
         let used = self.entering(ports, work);
         add_product(
@@ -64,7 +65,8 @@ impl Worked<'_> {
     // The flow of belt `b`, in the first records of `work`: how many terms it has.
     pub(crate) fn flow(&self, b: usize, work: &mut Work) -> usize
         ensures within { result ≤ length work.new }
-        ensures form { form_in (take result work.new) ≡ flow_by (forms_in self.now.forms.now) (ports_of (nodes_in self.now.sheet.now) b) }
+        ensures form { form_in (take result work.new)
+            ≡ flow_by (forms_in self.now.forms.now) (ports_of (nodes_in self.now.sheet.now) b) }
     {
         self.passing(ports_of(self.sheet, b), work)
     }

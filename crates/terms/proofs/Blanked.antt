@@ -61,16 +61,17 @@ module _ (W : List Term) (n reach : ℕ) (h : n ≤ reach) (l : reach ≤ length
       up : length (take n W ++ replicate (reach - n) blank) ≡ reach
       up = length-append (take n W) (replicate (reach - n) blank) ∙ omega (arith, in_use, length-replicate (reach - n) blank)
 
-  -- a form in front is held
-  pub held : (p : Form) (before W' : List Term) → InFront reach p before W n → Read W n reach → W' ≡ over W (blanked W n reach) reach → Held reach p before W' n
-  held p before W' f r e =
-      let b = e ∙ all in
-      record {
-        count = f.count;
-        bound = f.bound;
-        form = ap (λ ts. form_in (take n ts)) b ∙ ap form_in (take_at (take n W) (replicate (reach - n) blank ++ drop reach W) n in_use) ∙ f.form;
-        records = b ∙ ap₂ (λ us vs. us ++ (replicate (reach - n) blank ++ vs)) (sym whole ∙ ap (map term_of) f.form) f.rest;
-      }
-    where
-      whole : map term_of (form_in (take n W)) ≡ take n W
-      whole = terms_back (take n W) (λ i a. subst (λ t. term_of (entry_of t) ≡ t) (sym (get_or-take n W i unread (omega (arith, in_use)))) (r i (omega (arith, in_use)) (omega (arith, in_use))))
+  pub in_use_back : Read W n reach → map term_of (form_in (take n W)) ≡ take n W
+  in_use_back r = terms_back (take n W) (λ i a. subst (λ t. term_of (entry_of t) ≡ t) (sym (get_or-take n W i unread (omega (arith, in_use)))) (r i (omega (arith, in_use)) (omega (arith, in_use))))
+
+-- a form in front is held, once what is behind it up to the reach is blank
+pub settled : (reach n : ℕ) (p : Form) (before W W' : List Term) (reach' : ℕ) → W' ≡ take n W ++ (replicate (reach' - n) blank ++ drop reach' W)
+    → map term_of (form_in (take n W)) ≡ take n W → reach' ≡ reach → InFront reach p before W n → Held reach p before W' n
+settled reach n p before W W' reach' b e r f = record {
+  count = f.count;
+  bound = f.bound;
+  form = ap (λ ts. form_in (take n ts)) b ∙ ap form_in (take_at (take n W) (replicate (reach' - n) blank ++ drop reach' W) n (length-take-le n W f.within)) ∙ f.form;
+  records =
+      b ∙ ap (λ k. take n W ++ (replicate (k - n) blank ++ drop k W)) r
+      ∙ ap₂ (λ us vs. us ++ (replicate (reach - n) blank ++ vs)) (sym e ∙ ap (map term_of) f.form) f.rest;
+}

@@ -1,11 +1,11 @@
 -- Rising forms are equal exactly when they come to the same in every row; the test for equal forms.
-use Rattle.std.proofs.Common.{◌≡◌, ℕ, zero, suc, ◌/◌, ◌%◌, ◌<◌, Bool, true, false, ◌&&◌, eqb, ◌⊎◌, List, [], ◌∷◌, ℤ, pos, ◌+ℤ◌, ◌-ℤ◌, nat_abs, sym, refl, ap, ◌∙◌, subst, ap₂, inl, inr, arith}
+use Rattle.std.proofs.Common.{◌≡◌, ◌↔◌, IsTrue, ℕ, zero, suc, ◌/◌, ◌%◌, ◌<◌, Bool, true, false, ◌&&◌, eqb, ◌⊎◌, List, [], ◌∷◌, ℤ, pos, ◌+ℤ◌, ◌-ℤ◌, nat_abs, sym, refl, ap, ◌∙◌, subst, ap₂, inl, inr, arith}
 use lib.Arith.{bin_ind}
 use lib.IntN.{+ℤ_idr, +ℤ_invr, +ℤ_idl, -ℤ-+ℤ_cancel}
 use Rattle.std.proofs.lemmas.Int.{ints}
 use Rattle.std.proofs.lemmas.Bool.{cases_order, and_parts, and_from, eqb-true, eq-eqb, false≢true}
 use Rattle.terms.specs.Forms.{Form, row_of, high, value, Rising, same}
-use Rattle.terms.specs.Laws.{SameMeansEqual, Canonical}
+use Rattle.terms.specs.Laws.{SameMeansEqual, Alike, Canonical}
 use Rattle.terms.proofs.BitLaws.{low_above, high_self}
 use Rattle.terms.proofs.Values.{share, null_true}
 
@@ -89,3 +89,10 @@ same_self (t ∷ p) =
 
 pub same_means : SameMeansEqual
 same_means p q = (found p q, λ e. subst (λ (x : Form). same p x ≡ true) e (same_self p))
+
+-- an answer of the test, of any two forms, and of two rising ones
+pub same_equal : (r : Bool) (p q : Form) → r ≡ same p q → IsTrue r ↔ (p ≡ q)
+same_equal r p q e = ((λ f. found p q (sym e ∙ f)), (λ f. e ∙ (same_means p q).1 f))
+
+pub same_alike : (r : Bool) (p q : Form) → r ≡ same p q → Rising 0 p → Rising 0 q → IsTrue r ↔ Alike p q
+same_alike r p q e v w = ((λ f. (canonical p q v w).0 ((same_equal r p q e).0 f)), (λ h. (same_equal r p q e).1 ((canonical p q v w).1 h)))

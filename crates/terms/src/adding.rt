@@ -106,6 +106,7 @@ impl Addend for Product<'_> {
 
 // Adds to the form in the first `used` records, and answers how many it then has; refused where it may not fit. Records behind the form, up
 // to the last that it may use, are blanked.
+#[tactic(auto, using(crate::proofs::Blanked::settled))]
 fn add<A: Addend>(work: &mut [Term], used: usize, addend: &A) -> Option<usize>
     ensures { Merged (A.fitting addend.now work.old used) (used + A.terms addend.now)
         (A.onto addend.now (form_in (take used work.old))) work.old work.new result }

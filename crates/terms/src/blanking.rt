@@ -1,16 +1,14 @@
-ghost use Rattle.std.specs.Prelude.{◌≡◌, ◌≤◌, if◌then◌else◌, List, length};
-ghost use Rattle.terms.specs.declared.term.Term.{Term};
-ghost use Rattle.terms.specs.Forms.{Form};
-ghost use Rattle.terms.specs.Records.{entry_of, term_of, blank, Held};
-ghost use Rattle.terms.specs.Editing.{InFront};
+ghost use Rattle.std.specs.Prelude.{◌≡◌, ◌-◌, ◌≤◌, if◌then◌else◌, ◌++◌, map, length, take, drop, replicate};
+ghost use Rattle.terms.specs.Records.{entry_of, form_in, term_of, blank};
 
 use super::term::Term;
 
 // Leaves the first `len` records as they are, and blanks those behind them up to place `reach`.
 pub(super) fn blank_behind(work: &mut [Term], len: usize, reach: usize)
     requires { (len ≤ reach) × (reach ≤ length work.old) }
-    ensures { (p : Form) (before : List Term) →
-        InFront reach p before work.old len → Held reach p before work.new len }
+    ensures whole { work.new
+        ≡ take len work.old ++ (replicate (reach - len) blank ++ drop reach work.old) }
+    ensures terms { map term_of (form_in (take len work.old)) ≡ take len work.old }
 {
     for i in 0..reach {
         work[i] = kept(work[i], i < len);

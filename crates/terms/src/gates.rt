@@ -1,7 +1,8 @@
 ghost use Rattle.std.specs.Prelude.{◌≡◌, ◌+◌, ◌≤◌, true, not, ◌&&◌, ◌||◌, length, negsuc, unsigned_abs};
 ghost use Rattle.terms.specs.Forms.{add_all, add_product, not_form, and_form, or_form, xor_form};
 ghost use Rattle.terms.specs.Laws.{differ};
-ghost use Rattle.terms.specs.Records.{form_in, gate_fits, product_room, sum_room, Held, Formed, WorkedOut};
+ghost use Rattle.terms.specs.Records.{form_in, gate_fits, product_room, sum_room, Held, WorkedOut};
+ghost use Rattle.terms.specs.Editing.{InFront};
 
 use super::addends::{Multiple, Product};
 use super::blanking::blank_behind;
@@ -12,6 +13,7 @@ use super::term::Term;
 
 /// Works NOT of a form out in the first records of `work`, and answers how many terms it has. The records behind it that it might have
 /// used are blank then.
+#[tactic(auto, using(crate::proofs::Gating::formed, crate::proofs::Blanked::settled, crate::proofs::Gating::not_gated))]
 pub fn not_form(form: &[Term], work: &mut [Term]) -> Option<usize>
     ensures { WorkedOut (length form.now + 1) (λ p q. not_form p) (λ a b. not a) form.now form.now
         work.old work.new result }
@@ -19,11 +21,14 @@ pub fn not_form(form: &[Term], work: &mut [Term]) -> Option<usize>
     if !not_fits(work, form) {
         return None;
     }
-    Some(negation(form, work))
+    let len = negation(form, work);
+    blank_behind(work, len, form.len() + 1);
+    Some(len)
 }
 
 /// Works AND of two forms out in the first records of `work`, and answers how many terms it has. The records behind it that it might have
 /// used are blank then.
+#[tactic(auto, using(crate::proofs::Gating::formed, crate::proofs::Blanked::settled, crate::proofs::Gating::and_gated))]
 pub fn and_form(one: &[Term], other: &[Term], work: &mut [Term]) -> Option<usize>
     ensures { WorkedOut (product_room one.now other.now) and_form (λ a b. a && b) one.now other.now
         work.old work.new result }
@@ -31,7 +36,9 @@ pub fn and_form(one: &[Term], other: &[Term], work: &mut [Term]) -> Option<usize
     if !and_fits(work, one, other) {
         return None;
     }
-    Some(conjunction(one, other, work))
+    let len = conjunction(one, other, work);
+    blank_behind(work, len, one.len() * other.len());
+    Some(len)
 }
 
 /// Works OR of two forms out in the first records of `work`, and answers how many terms it has. The records behind it that it might have
@@ -54,7 +61,7 @@ pub fn xor_form(one: &[Term], other: &[Term], work: &mut [Term]) -> Option<usize
 
 fn negation(form: &[Term], work: &mut [Term]) -> usize
     requires { gate_fits (length form.now + 1) work.old form.now form.now ≡ true }
-    ensures { Formed (length form.now + 1) (λ p q. not_form p) (λ a b. not a) form.now form.now
+    ensures { InFront (length form.now + 1) (not_form (form_in form.now))
         work.old work.new result }
 {
     work[0] = Term {
@@ -66,24 +73,20 @@ fn negation(form: &[Term], work: &mut [Term]) -> usize
         factor: -1,
         form,
     };
-    let len = less.put_into(work, 1);
-    blank_behind(work, len, form.len() + 1);
-    len
+    less.put_into(work, 1)
 }
 
 fn conjunction(one: &[Term], other: &[Term], work: &mut [Term]) -> usize
     requires { gate_fits (product_room one.now other.now) work.old one.now other.now ≡ true }
-    ensures { Formed (product_room one.now other.now) and_form (λ a b. a && b) one.now other.now
-        work.old work.new result }
+    ensures { InFront (product_room one.now other.now)
+        (and_form (form_in one.now) (form_in other.now)) work.old work.new result }
 {
     let product = Product {
         factor: 1,
         one,
         other,
     };
-    let len = product.put_into(work, 0);
-    blank_behind(work, len, one.len() * other.len());
-    len
+    product.put_into(work, 0)
 }
 
 // Works the sum of two forms and `factor` times their product out: OR is the sum less the product, XOR the sum less twice the product.

@@ -65,7 +65,8 @@ impl Multiple<'_> {
     // Adds it to the form in the first `used` records, and answers how many terms that then has.
     pub(super) fn put_into(&self, work: &mut [Term], used: usize) -> usize
         requires room { used + length self.now.form.now ≤ length work.old }
-        requires fits { norm (form_in (take used work.old)) + unsigned_abs self.now.factor * norm (form_in self.now.form.now) < 2 ^ 63 }
+        requires fits { norm (form_in (take used work.old))
+            + unsigned_abs self.now.factor * norm (form_in self.now.form.now) < 2 ^ 63 }
         ensures { InFront (used + length self.now.form.now)
             (add_all (form_in (take used work.old))
             (scaled (number_of self.now.set.now) self.now.factor (form_in self.now.form.now)))
@@ -86,8 +87,11 @@ impl Multiple<'_> {
 impl Product<'_> {
     // Adds it to the form in the first `used` records, and answers how many terms that then has.
     pub(super) fn put_into(&self, work: &mut [Term], used: usize) -> usize
-        requires room { used + length self.now.one.now * length self.now.other.now ≤ length work.old }
-        requires fits { norm (form_in (take used work.old)) + unsigned_abs self.now.factor * norm (form_in self.now.one.now) * norm (form_in self.now.other.now) < 2 ^ 63 }
+        requires room { used + length self.now.one.now * length self.now.other.now
+            ≤ length work.old }
+        requires fits { norm (form_in (take used work.old))
+            + unsigned_abs self.now.factor * norm (form_in self.now.one.now)
+            * norm (form_in self.now.other.now) < 2 ^ 63 }
         requires small { unsigned_abs self.now.factor * norm (form_in self.now.one.now) < 2 ^ 63 }
         ensures { InFront (used + length self.now.one.now * length self.now.other.now)
             (add_product self.now.factor (form_in (take used work.old))

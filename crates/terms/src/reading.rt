@@ -20,7 +20,8 @@ pub fn value(form: &[Term], row: &Set) -> i128
 
 // What a term adds: its coefficient where its wires are all high.
 fn share(t: &Term, row: &Set) -> i64
-    ensures { result ≡ (if high (number_of t.now.set) (number_of row.now) then t.now.coefficient else pos 0) }
+    ensures { result
+        ≡ (if high (number_of t.now.set) (number_of row.now) then t.now.coefficient else pos 0) }
 {
     if all_high(&t.set, row) {
         t.coefficient
@@ -30,6 +31,7 @@ fn share(t: &Term, row: &Set) -> i64
 }
 
 /// Whether two forms have the same terms with the same coefficients; of rising forms, whether they come to the same in every row.
+#[tactic(auto, using(crate::proofs::Canon::same_equal, crate::proofs::Canon::same_alike))]
 pub fn same(one: &[Term], other: &[Term]) -> bool
     ensures exact { result ≡ same (form_in one.now) (form_in other.now) }
     ensures equal { IsTrue result ↔ (form_in one.now ≡ form_in other.now) }
@@ -50,7 +52,9 @@ fn matching(one: &[Term], other: &[Term]) -> bool
 }
 
 fn same_term(one: Term, other: Term) -> bool
-    ensures { result ≡ (number_of one.set == number_of other.set && unsigned_abs (one.coefficient -ℤ other.coefficient) == 0) }
+    ensures { result
+        ≡ (number_of one.set == number_of other.set
+        && unsigned_abs (one.coefficient -ℤ other.coefficient) == 0) }
 {
     one == other
 }

@@ -2,13 +2,13 @@ ghost use Rattle.std.specs.Prelude.{◌≡◌, ◌/◌, ◌%◌, ◌^◌, ◌<�
 ghost use Rattle.terms.specs.Sets.{number_of};
 ghost use Rattle.terms.specs.Forms.{high};
 
-// A set of free wires: wire n is bit n mod 8, lowest first, of byte n div 8.
+/// A set of free wires: wire n is bit n mod 8, lowest first, of byte n div 8.
 pub type Set = [u8; 16];
 
-// The set of no wire.
+/// The set of no wire.
 pub const EMPTY: Set = [0; 16];
 
-// A set as the number that its bytes spell, byte 0 lowest.
+/// A set as the number that its bytes spell, byte 0 lowest.
 pub fn number(set: &Set) -> u128
     ensures { result ≡ number_of set.now }
 {
@@ -22,7 +22,7 @@ fn spelling(number: u128) -> Set
     number.to_le_bytes()
 }
 
-// The set of the wires that are in either.
+/// The set of the wires that are in either.
 pub fn join(one: &Set, other: &Set) -> Set
     ensures { number_of result ≡ bit_or (number_of one.now) (number_of other.now) }
 {
@@ -36,9 +36,11 @@ pub(super) fn before(one: &Set, other: &Set) -> bool
     number(one) < number(other)
 }
 
-// The set of one wire: its bit, of its byte. There is none past wire 127.
+/// The set of one wire: its bit, of its byte. There is none past wire 127.
 pub fn alone(wire: usize) -> Option<Set>
-    ensures { MatchOption result (128 ≤ wire) (λ s. (wire < 128) × (s ≡ set (replicate 16 0) (wire / 8) (2 ^ (wire % 8))) × (number_of s ≡ 2 ^ wire)) }
+    ensures { MatchOption result (128 ≤ wire) (λ s. (wire < 128)
+        × (s ≡ set (replicate 16 0) (wire / 8) (2 ^ (wire % 8)))
+        × (number_of s ≡ 2 ^ wire)) }
 {
     if wire < 128 { Some(marked(wire)) } else { None }
 }

@@ -22,8 +22,11 @@ const MOST_TOGETHER: usize = 2048;
 impl Filling {
     // Takes the form of the gate at `line` in, or tells the limit that it passes.
     fn admit(&mut self, form: &[Term], line: u16) -> Result<(), Fault>
-        ensures exact { (g : Logic) → MatchResult result (λ _. together self.old.terms line (Line.Gate g) (form_in form.now) ≡ Ok self.new.terms) (λ e. together self.old.terms line (Line.Gate g) (form_in form.now) ≡ Err e) }
-        ensures within { IfOk result (λ _. (length form.now ≤ 24) × (large (form_in form.now) ≡ false)) }
+        ensures exact { (g : Logic) → MatchResult result
+            (λ _. together self.old.terms line (Line.Gate g) (form_in form.now) ≡ Ok self.new.terms)
+            (λ e. together self.old.terms line (Line.Gate g) (form_in form.now) ≡ Err e) }
+        ensures within { IfOk result (λ _.
+            (length form.now ≤ 24) × (large (form_in form.now) ≡ false)) }
         ensures free { self.new.free ≡ self.old.free }
     {
         if form.len() > MOST_TERMS {
@@ -55,7 +58,8 @@ impl Filling {
     // The form of a gate after the lines before it.
     fn gate(&mut self, before: &[Slot], gate: Gate, work: &mut Work) -> Result<Slot, Fault>
         requires place { length before.now < 640 }
-        ensures { Lined self.old (length before.now) (Line.Gate gate) (gate_form (slot_forms before.now) gate) self.new result }
+        ensures { Lined self.old (length before.now) (Line.Gate gate)
+            (gate_form (slot_forms before.now) gate) self.new result }
     {
         let n = work_out(before, gate, work);
         let form = &work[..n];
@@ -67,7 +71,8 @@ impl Filling {
     fn line(&mut self, before: &[Slot], node: Node, work: &mut Work) -> Result<Slot, Fault>
         requires place { length before.now < 640 }
         requires wires { is_free node ≡ true → self.old.free < 128 }
-        ensures { Lined self.old (length before.now) node (node_form self.old.free (slot_forms before.now) node) self.new result }
+        ensures { Lined self.old (length before.now) node
+            (node_form self.old.free (slot_forms before.now) node) self.new result }
     {
         match node {
             Node::Free(_) => Ok(self.wire()),
@@ -81,7 +86,8 @@ impl Filling {
 pub(crate) fn fill(sheet: &Sheet, slots: &mut [Slot; MOST_LINES]) -> Result<(), Fault>
     ensures exact { let ns = nodes_in sheet.now in
         MatchResult result
-        (λ _. (slot_forms (take (length ns) slots.new) ≡ forms_of ns) × ((n : ℕ) × (limits ns ≡ Ok n)))
+        (λ _. (slot_forms (take (length ns) slots.new) ≡ forms_of ns)
+        × ((n : ℕ) × (limits ns ≡ Ok n)))
         (λ e. limits ns ≡ Err e) }
     ensures numbers { IfErr result (IsOneOf form_numbers) }
 {

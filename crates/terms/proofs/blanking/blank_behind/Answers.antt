@@ -2,7 +2,7 @@ use Rattle.std.proofs.Common.{◌≡◌, ◌∙◌, set, ap, subst, get_or, cond
 use Rattle.terms.specs.Records.{entry_of, term_of, blank}
 use Rattle.terms.proofs.Over.{over}
 use Rattle.terms.proofs.Recorded.{unread}
-use Rattle.terms.proofs.Blanked.{blanked, unchanged, more, read_more, held}
+use Rattle.terms.proofs.Blanked.{blanked, unchanged, more, read_more, all, in_use_back}
 use Rattle.terms.proofs.blanking.blank_behind.Goals as goal
 
 pub loop-i-preserved : goal.loop-i-preserved
@@ -18,7 +18,9 @@ loop-i-preserved c =
     )
 
 pub returns : goal.returns
-returns c p before f =
-    held c.args.work.now c.args.len c.args.reach c.requires.0 c.requires.1 p before _ f
-    (λ k a b. c.loop-i.invariant.1 k (omega arith) b)
-    (c.loop-i.invariant.0 ∙ ap (over c.args.work.now (blanked c.args.work.now c.args.len c.args.reach)) (omega arith))
+returns c = record {
+  whole =
+      c.loop-i.invariant.0 ∙ ap (over c.args.work.now (blanked c.args.work.now c.args.len c.args.reach)) (omega arith)
+      ∙ all c.args.work.now c.args.len c.args.reach c.requires.0 c.requires.1;
+  terms = in_use_back c.args.work.now c.args.len c.args.reach c.requires.0 c.requires.1 (λ k a b. c.loop-i.invariant.1 k (omega arith) b);
+}

@@ -6,6 +6,7 @@ use Rattle.std.proofs.lemmas.Int.{to_z-of_z}
 use Rattle.terms.specs.declared.term.Term.{Term}
 use Rattle.terms.specs.Forms.{Form, norm, add_all, scaled, add_product}
 use Rattle.terms.specs.Records.{form_in}
+use Rattle.terms.proofs.Blanked.{settled}
 use Rattle.terms.proofs.Fitting.{gate_parts, scaled_one}
 use Rattle.terms.proofs.Norms.{add_all_norm, twice_light}
 use Rattle.terms.proofs.Recorded.{drop_later, onward}
@@ -42,7 +43,8 @@ returns c =
     let N = length A + length B + length A * length B in
     let e = front W W₁ A c.put_form-copied.result c.put_form-copied.ensures.size c.put_form-copied.ensures.whole in
     let f = c.put_into-used.ensures.form ∙ summed _ (form_in A) (form_in B) e in
-    c.blank_behind.ensures _ W (onward (c.put_into-used.result + length A * length B) N c.put_into-len.result _ _ W₂ c.put_into-len.new.work W c.put_into-len.ensures
+    settled N c.put_into-len.result _ W _ _ N c.blank_behind.ensures.whole c.blank_behind.ensures.terms refl
+    (onward (c.put_into-used.result + length A * length B) N c.put_into-len.result _ _ W₂ c.put_into-len.new.work W c.put_into-len.ensures
     (ap₂ (λ (k : ℤ) (x : Form). add_product k x (form_in A) (form_in B)) (to_z-of_z w64 c.args.factor c.ranges.factor) f)
     (omega (arith, c.put_into-used.ensures.bound))
     (drop_later (c.put_form-copied.result + length B) N W₂ W₁ (omega arith) c.put_into-used.ensures.rest
