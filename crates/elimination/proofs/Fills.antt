@@ -26,8 +26,8 @@ module _ (K : Kind) (a c : K.Num) where
       cc
 
 -- a x less c y is the sum of a x and (-c) y
-pub sum_less : {K : Kind} (L : Lawful K) {a x c y m p q s : K.Num} → m ≡ K.neg c → p ≡ K.mul a x → q ≡ K.mul m y → s ≡ K.add p q → s ≡ K.add (K.mul a x) (K.neg (K.mul c y))
-sum_less {K} L {a} {x} {c} {y} em ep eq es = es ∙ ap₂ K.add ep (eq ∙ ap (λ u. K.mul u y) em ∙ neg_mul L c y)
+pub sum_less : {K : Kind} (L : Lawful K) {a x c y m s : K.Num} → m ≡ K.neg c → s ≡ K.add (K.mul a x) (K.mul m y) → s ≡ K.add (K.mul a x) (K.neg (K.mul c y))
+sum_less {K} L {a} {x} {c} {y} em es = es ∙ ap (K.add (K.mul a x)) (ap (λ u. K.mul u y) em ∙ neg_mul L c y)
 
 -- the first nonzero of the first numbers, as it is found
 pub leads_found : (K : Kind) {X : Type 0} (value : X → K.Num) (n : ℕ) (row : List X) → leads_below K n (map value row) ≡ option_map_or (λ x. K.below (value x)) (find (λ x. not (K.is_zero (value x))) (take n row)) false

@@ -52,7 +52,15 @@ pub(crate) fn start_row<T: Number>(
     set_coefficients(row, n, coefficients)
 }
 
-// Each number of `out` becomes a times that of `row` less c times that of `other`.
+// a x plus b y.
+fn sum_of<T: Number>(a: T, x: T, b: T, y: T) -> T::Sum
+    ensures { T.sum result ≡ T.kind.add (T.kind.mul (T.value a) (T.value x)) (T.kind.mul (T.value b) (T.value y)) }
+{
+    T::plus(a.times(x), b.times(y))
+}
+
+// Each number of `out` becomes a times that of `row` less c times that of `other`: the sum of a times the one and -c times
+// the other.
 pub(crate) fn combine_row<T: Number>(out: &mut [T::Sum], a: T, row: &[T], c: T, other: &[T])
     requires long { length row.now ≡ length out.old }
     requires alike { length other.now ≡ length out.old }
@@ -60,7 +68,7 @@ pub(crate) fn combine_row<T: Number>(out: &mut [T::Sum], a: T, row: &[T], c: T, 
 {
     let minus_c = c.negated();
     for (i, x) in row.iter().enumerate() {
-        out[i] = T::plus(a.times(*x), minus_c.times(other[i]));
+        out[i] = sum_of(a, *x, minus_c, other[i]);
     }
 }
 

@@ -12,12 +12,12 @@ use crate::reduce::handle;
 use crate::rows::{row_at, start_row};
 use kinds::{Number, Parity, Whole};
 
-// Why an elimination is refused.
+/// Why an elimination is refused.
 #[derive(Clone, Copy, PartialEq, Eq, Debug)]
 pub enum EliminationError {
-    // more than 32 rows or 256 columns, not one coefficient for each, or too little room for the weights
+    /// more than 32 rows or 256 columns, not one coefficient for each, or too little room for the weights
     Sizes,
-    // a number of the row with this number passes the limit
+    /// a number of the row with this number passes the limit
     LargeNumber(usize),
 }
 
@@ -65,6 +65,13 @@ impl<'a> Table<'a> {
     }
 }
 
+// The refusal of the row with number b.
+fn refusal_of(b: usize) -> EliminationError
+    ensures { result ≡ LargeNumber b }
+{
+    EliminationError::LargeNumber(b)
+}
+
 // All rows in order, in lent memory: first the row at work, then the kept rows.
 fn eliminate<T: Number>(
     table: &Table,
@@ -81,7 +88,7 @@ fn eliminate<T: Number>(
     let sums = &mut sums[0..size];
     let mut filed = Filed::new();
     for b in 0..table.n {
-        let large = EliminationError::LargeNumber(b);
+        let large = refusal_of(b);
         start_row(row, table.n, b, table.row(b)).or(Err(large))?;
         let leads = &filed.leads[0..filed.used];
         let kept = Kept { size, leads, rows };
@@ -120,8 +127,8 @@ fn solve<T: Number>(
     Ok(filed.found)
 }
 
-// The balances of n rows of m whole coefficients each, which lie one after another: how many there are, and their
-// weights, one after another, into `weights`. Later numbers stay, and a refusal changes nothing.
+/// The balances of n rows of m whole coefficients each, which lie one after another: how many there are, and their
+/// weights, one after another, into `weights`. Later numbers stay, and a refusal changes nothing.
 pub fn eliminate_whole(
     n: usize,
     m: usize,
@@ -136,7 +143,7 @@ pub fn eliminate_whole(
     solve(n, m, coefficients, weights, &mut cells, &mut sums)
 }
 
-// The same in parities, where 1 is written for an odd weight and 0 for an even one.
+/// The same in parities, where 1 is written for an odd weight and 0 for an even one.
 pub fn eliminate_parity(
     n: usize,
     m: usize,

@@ -29,7 +29,7 @@ returns-in_err-or g c =
     let s = state_in v.kind t.n (t.n + t.m) l.filed (map v.value l.rows) in
     let p = err_from_is_err_and c.from_residual.result c.from_residual.ensures.1 in
     let past = refused c.start_row.result _ _ _ _ (sym c.or.ensures ∙ c.in_err-or.was) c.start_row.ensures.past in
-    rw p.1 (l.b, p.2 ∙ past.0, sym l.invariant.2 ∙ starts_past v.kind t.n t.m l.b c.loop-b-test.true t.coefficients.now c.row.result.now c.row.ensures.row s past.1.1)
+    rw p.1 (l.b, p.2 ∙ past.0 ∙ c.refusal_of-large.ensures, sym l.invariant.2 ∙ starts_past v.kind t.n t.m l.b c.loop-b-test.true t.coefficients.now c.row.result.now c.row.ensures.row s past.1.1)
 
 pub invariant_of-kept : goal.invariant_of-kept
 invariant_of-kept g c =
@@ -50,7 +50,7 @@ returns-in_err-lead g c =
     let started = passed c.start_row.result _ _ _ _ (sym c.or.ensures ∙ c.in_ok-or.was) c.start_row.ensures.stored in
     let past = refused c.handle.result _ _ _ _ (sym c.or-in-loop-b.ensures ∙ c.in_err-lead.was) c.handle.ensures in
     let same = past.1.1 ∙ same_handled v.kind t.n t.m (length c.start_row.new.row) (omega arith) (ap (λ k. take k l.filed.leads) u) (map v.value l.rows) started.1 in
-    rw p.1 (l.b, p.2 ∙ past.0, sym l.invariant.2 ∙ steps_past v.kind t.n t.m l.b c.loop-b-test.true t.coefficients.now c.row.result.now c.row.ensures.row s started.0 passes same refl)
+    rw p.1 (l.b, p.2 ∙ past.0 ∙ c.refusal_of-large.ensures, sym l.invariant.2 ∙ steps_past v.kind t.n t.m l.b c.loop-b-test.true t.coefficients.now c.row.result.now c.row.ensures.row s started.0 passes same refl)
 
 pub keep-requires-clause-room : goal.keep-requires-clause-room
 keep-requires-clause-room g c =
