@@ -1,7 +1,6 @@
 #![tactic(auto)]
 
-use listing::{MOST_WRITTEN, list_balances};
-use printing::print_refusal;
+use listing::{MOST_WRITTEN, answer_text};
 use sheet::limits::MOST_BYTES;
 use std::io::{Read, Write};
 use std::process::ExitCode;
@@ -13,12 +12,13 @@ fn run(rt: &HostRuntime) -> anyhow::Result<ExitCode> {
     let mut text = Vec::new(rt.alloc());
     rt.stdin().take(MOST_READ).read_to_end(&mut text)?;
     let mut page = [0; MOST_WRITTEN];
-    let (status, written) = match list_balances(text.as_slice(), &mut page) {
-        Ok(n) => (ExitCode::SUCCESS, n),
-        Err(fault) => (ExitCode::FAILURE, print_refusal(fault, &mut page)?),
-    };
-    rt.stdout().write_all(&page[..written.min(MOST_WRITTEN)])?;
-    Ok(status)
+    let answer = answer_text(text.as_slice(), &mut page)?;
+    rt.stdout().write_all(&page[..answer.length])?;
+    Ok(if answer.accepted {
+        ExitCode::SUCCESS
+    } else {
+        ExitCode::FAILURE
+    })
 }
 
 // Reads a sheet from standard input and prints the list of its balances in whole numbers, or the refusal line (status 1).

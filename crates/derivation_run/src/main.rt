@@ -1,6 +1,9 @@
 // Boards, read from their files, with what is derived and printed of each.
 #![tactic(auto)]
 
+ghost use Rattle.std.specs.Prelude.{◌≤◌, length, IfOk};
+ghost use Rattle.std.specs.Result.{ForOk};
+
 #[cfg(test)]
 mod tests;
 
@@ -13,31 +16,30 @@ use std::fs;
 use std::io::Write;
 
 // The parity balances of a board, as a list.
-fn list_parities(text: &[u8], page: &mut [u8]) -> Result<usize, Fault> {
+fn list_parities(text: &[u8], page: &mut [u8]) -> Result<usize, Fault>
+    ensures within { IfOk result (λ n. n ≤ length page.new) }
+{
     let sheet = Sheet::load(text)?;
     let mut weights = [0; MOST_WEIGHTS];
     let balances = derive_parity(&sheet, &mut weights)?;
     print_list(sheet.belts(), balances, &weights, page)
 }
 
-// Prints the list of a board, or the line of its refusal, which has to leave the page as it was.
-fn print_page<L: FnOnce(&[u8], &mut [u8]) -> Result<usize, Fault>>(
-    rt: &HostRuntime,
-    text: &[u8],
-    list: L,
-) -> anyhow::Result<()>
-    requires { L.IsAlwaysCallable list }
+// Prints the list that stands on a page, of so many bytes, or the line of its refusal, which has to have left the page as it
+// was.
+fn print_page(rt: &HostRuntime, listed: Result<usize, Fault>, page: &mut [u8]) -> anyhow::Result<()>
+    requires within { ForOk listed (λ n. n ≤ length page.old) }
 {
-    let mut page = [0; MOST_WRITTEN];
-    let answer = list(text, &mut page);
-    if answer.is_err() && page.iter().any(|byte| *byte != 0) {
-        println!(rt; "a refusal wrote on the page")?;
-    }
-    let written = match answer {
+    let written = match listed {
         Ok(n) => n,
-        Err(fault) => print_refusal(fault, &mut page)?,
+        Err(fault) => {
+            if page.iter().any(|byte| *byte != 0) {
+                println!(rt; "a refusal wrote on the page")?;
+            }
+            print_refusal(fault, page)?
+        }
     };
-    rt.stdout().write_all(&page[..written.min(MOST_WRITTEN)])?;
+    rt.stdout().write_all(&page[..written])?;
     Ok(())
 }
 
@@ -48,8 +50,12 @@ fn main(rt: HostRuntime) -> anyhow::Result<()> {
         let path = format!(in rt.alloc(); "{board}.sheet")?;
         let text = fs::read(&rt, path.as_str())?;
         println!(rt; "{board}")?;
-        print_page(&rt, text.as_slice(), |text, page| list_balances(text, page))?;
-        print_page(&rt, text.as_slice(), list_parities)?;
+        let mut page = [0; MOST_WRITTEN];
+        let listed = list_balances(text.as_slice(), &mut page);
+        print_page(&rt, listed, &mut page)?;
+        let mut page = [0; MOST_WRITTEN];
+        let listed = list_parities(text.as_slice(), &mut page);
+        print_page(&rt, listed, &mut page)?;
     }
     Ok(())
 }
