@@ -1,5 +1,5 @@
 -- The printed list of a text's balances in whole numbers, or the first refusal on the way. Assumes nothing.
-use Rattle.std.specs.Prelude.{ℕ, List, [], ◌∷◌, length, Ok, Err, is_ok, count_by, Result, nat_lt}
+use Rattle.std.specs.Prelude.{ℕ, List, length, Ok, Err, is_ok, count_by, Result, nat_lt}
 use Rattle.std.specs.List.{flat_map}
 use Rattle.sheet.specs.declared.node.Node.{Node}
 use Rattle.sheet.specs.declared.fault.Fault.{Fault}
@@ -39,7 +39,3 @@ abbrev pub answer_text : List ℕ → List ℕ → Outcome Answer ℕ
 answer_text text page =
     written (λ bytes. record { accepted = is_ok (list_of text); length = length bytes }) (λ bytes. bytes)
     (refuse_if (nat_lt (length page) (length (answer_bytes text))) ShortText 0 (Ok (answer_bytes text))) page
-
--- the numbers with which that may be refused
-abbrev pub answer_numbers : List ℕ
-answer_numbers = 23 ∷ []

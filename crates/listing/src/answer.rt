@@ -1,8 +1,8 @@
 // The answer to a text: its list, or the line of its refusal.
 ghost use Rattle.std.specs.Prelude.{◌≡◌, ◌≤◌, length, take, IsOk, IfOk, IfErr};
 ghost use Rattle.std.specs.Bool.{OnTrue};
-ghost use Rattle.sheet.specs.Refusals.{IsOneOf};
-ghost use Rattle.listing.specs.Listing.{answer_text, answer_numbers};
+ghost use Rattle.sheet.specs.Refusals.{IsOneOf, answer_numbers};
+ghost use Rattle.listing.specs.Listing.{answer_text};
 ghost use Rattle.listing.specs.Truth.{Truth};
 
 use crate::balances::Balances;
