@@ -1,26 +1,33 @@
-use Rattle.std.proofs.Common.{◌≡◌, ◌∙◌, set, ap, subst, get_or, cond, ltb, arith}
-use Rattle.terms.specs.Records.{entry_of, term_of, blank}
+use Rattle.std.proofs.Common.{◌≡◌, ◌∙◌, ap, set, subst, get_or, take, ⊎_elim, arith}
+use Rattle.std.proofs.lemmas.Bool.{cases_lt}
+use Rattle.terms.specs.Records.{entry_of, term_of}
 use Rattle.terms.proofs.Over.{over}
-use Rattle.terms.proofs.Recorded.{unread}
-use Rattle.terms.proofs.Blanked.{blanked, unchanged, more, read_more, all, in_use_back}
+use Rattle.terms.proofs.Recorded.{unread, terms_back}
+use Rattle.terms.proofs.Blanked.{blanked, none, more, all}
 use Rattle.terms.proofs.blanking.blank_behind.Goals as goal
+
+pub loop-t-preserved : goal.loop-t-preserved
+loop-t-preserved c =
+    let T = take c.args.len c.args.work.now in
+    λ k a. ⊎_elim (λ q. c.loop-t.invariant k q) (λ q. subst (λ j. term_of (entry_of (get_or T j unread)) ≡ get_or T j unread) (omega arith) c.read.ensures) (cases_lt k c.loop-t.t-index)
+
+pub loop-i-init : goal.loop-i-init
+loop-i-init c = (none c.args.work.now c.args.len c.args.reach c.requires.0 c.requires.1, omega arith, c.requires.0)
 
 pub loop-i-preserved : goal.loop-i-preserved
 loop-i-preserved c =
     let W = c.args.work.now in
-    let n = c.args.len in
-    let r = c.args.reach in
-    let i = c.loop-i.i in
-    let e = ap (λ ts. get_or ts i unread) c.loop-i.invariant.0 ∙ unchanged W n r c.requires.0 c.requires.1 i (omega arith) in
-    let t = c.kept.ensures.value ∙ ap (λ u. cond (ltb i n) u blank) e in (
-      ap (λ ts. set ts i c.kept.result) c.loop-i.invariant.0 ∙ more W n r c.requires.0 c.requires.1 i c.kept.result (omega arith) t,
-      read_more W n r c.requires.0 c.requires.1 i c.loop-i.invariant.1 (subst (λ u. term_of (entry_of u) ≡ u) e c.kept.ensures.whole),
+    let i = c.loop-i.i in (
+      ap (λ ts. set ts i c.unused.result) c.loop-i.invariant.0 ∙ ap (set (over W (blanked W c.args.len c.args.reach) i) i) c.unused.ensures
+          ∙ more W c.args.len c.args.reach c.requires.0 c.requires.1 i c.loop-i.invariant.1 (omega arith),
+      omega arith,
+      omega arith,
     )
 
 pub returns : goal.returns
-returns c = record {
-  whole =
-      c.loop-i.invariant.0 ∙ ap (over c.args.work.now (blanked c.args.work.now c.args.len c.args.reach)) (omega arith)
-      ∙ all c.args.work.now c.args.len c.args.reach c.requires.0 c.requires.1;
-  terms = in_use_back c.args.work.now c.args.len c.args.reach c.requires.0 c.requires.1 (λ k a b. c.loop-i.invariant.1 k (omega arith) b);
-}
+returns c =
+    let W = c.args.work.now in
+    record {
+      whole = c.loop-i.invariant.0 ∙ ap (over W (blanked W c.args.len c.args.reach)) (omega (arith, c.loop-i.invariant)) ∙ all W c.args.len c.args.reach c.requires.0 c.requires.1;
+      terms = terms_back (take c.args.len W) (λ k a. c.loop-t.invariant k (omega (arith, a)));
+    }
