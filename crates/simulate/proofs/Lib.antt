@@ -1,1 +1,3 @@
 pub mod Alterations
+pub mod Sums
+pub mod Watching

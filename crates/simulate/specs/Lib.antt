@@ -1,1 +1,5 @@
 pub mod Rings
+pub mod Sums
+pub mod Totals
+pub mod Kinds
+pub mod Balances

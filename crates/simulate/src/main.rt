@@ -3,6 +3,7 @@
 mod balance;
 mod report;
 mod rings;
+mod totals;
 mod watch;
 
 use crate::rings::Rings;

@@ -1,29 +1,52 @@
+ghost use Rattle.std.specs.Prelude.{◌≡◌, map, unwrap_or, IfOk};
+ghost use Rattle.line.specs.Lines.{read};
+ghost use Rattle.line.specs.Views.{view};
+ghost use Rattle.simulate.specs.Sums.{counts_of, sum_of};
+
 use crate::balance::{Balance, Kind, balances_of};
 use crate::report::{gap, print_numbers, print_weights};
+use crate::totals::Totals;
 use banks::bank::Bank;
 use line::line::Line;
 use sheet::fault::Fault;
 use sheet::sheet::Sheet;
 use std::alloc::{AllocError, Global};
 
-// What is watched of a line: the balances of its sheet, the ticks made, the rows refused, the words that went in and came out.
+// What is watched of a line: the balances of its sheet, and the totals of what its ticks told.
 #[derive(Drop)]
 pub(crate) struct Watch {
     belts: usize,
     balances: Vec<Balance>,
-    ticks: u64,
-    refused: u64,
-    entered: u64,
-    left: u64,
+    totals: Totals,
+}
+
+// How many words a belt holds, 0 where the line tells no count.
+fn count_of<B: Bank>(line: &Line<B>, belt: usize) -> u16
+    ensures { result ≡ unwrap_or (read (view B.belts line.now) belt) 0 }
+{
+    line.count(belt).unwrap_or(0)
 }
 
 // How many words each belt holds.
-fn counts_of<B: Bank>(heap: Global, line: &Line<B>, belts: usize) -> Result<Vec<u16>, AllocError> {
+fn counts_of<B: Bank>(heap: Global, line: &Line<B>, belts: usize) -> Result<Vec<u16>, AllocError>
+    ensures { IfOk result (λ v. v.items ≡ counts_of (view B.belts line.now) belts) }
+{
     let mut counts = Vec::new(heap);
     for b in 0..belts {
-        counts.push(line.count(b).unwrap_or(0))?;
+        counts.push(count_of(line, b))?;
     }
     Ok(counts)
+}
+
+// What each balance comes to over the counts.
+fn sums_of(heap: Global, balances: &[Balance], counts: &[u16]) -> Result<Vec<i128>, AllocError>
+    ensures { IfOk result (λ v. v.items ≡ map (λ b. sum_of b counts.now) balances.now) }
+{
+    let mut sums = Vec::new(heap);
+    for balance in balances {
+        sums.push(balance.sum(counts))?;
+    }
+    Ok(sums)
 }
 
 impl Watch {
@@ -33,10 +56,7 @@ impl Watch {
         Ok(Watch {
             belts: sheet.belts(),
             balances,
-            ticks: 0,
-            refused: 0,
-            entered: 0,
-            left: 0,
+            totals: Totals::new(),
         })
     }
 
@@ -61,11 +81,9 @@ impl Watch {
         events: &[u8],
         pair: (usize, usize),
     ) -> anyhow::Result<()> {
-        self.ticks = self.ticks.saturating_add(1);
-        self.entered = self.entered.saturating_add(pair.0 as u64);
-        self.left = self.left.saturating_add(pair.1 as u64);
+        self.totals.add_tick(pair);
         let counts = counts_of(rt.alloc(), line, self.belts)?;
-        print!(rt; "tick {}: events", self.ticks)?;
+        print!(rt; "tick {}: events", self.totals.ticks)?;
         for event in events.chunks_exact(2).take(self.belts) {
             print!(rt; " {}{}", event[0], event[1])?;
         }
@@ -75,9 +93,9 @@ impl Watch {
 
     // What each balance comes to over the counts, and a line's end.
     fn print_sums(&mut self, rt: &HostRuntime, counts: &[u16]) -> anyhow::Result<()> {
-        let mut sums = Vec::new(rt.alloc());
-        for balance in self.balances.iter_mut() {
-            sums.push(balance.look(self.ticks, counts))?;
+        let sums = sums_of(rt.alloc(), &self.balances, counts)?;
+        for (balance, sum) in self.balances.iter_mut().zip(&sums) {
+            balance.look(self.totals.ticks, *sum);
         }
         print_numbers(rt, ", sums", &sums)?;
         println!(rt)?;
@@ -86,7 +104,7 @@ impl Watch {
 
     // A row that the line refused.
     pub(crate) fn refused(&mut self, rt: &HostRuntime, fault: Fault) -> anyhow::Result<()> {
-        self.refused = self.refused.saturating_add(1);
+        self.totals.add_refusal();
         println!(rt; "{fault}")?;
         Ok(())
     }
@@ -95,7 +113,7 @@ impl Watch {
     pub(crate) fn print_end(&self, rt: &HostRuntime) -> anyhow::Result<()> {
         println!(rt;
             "ticks {}, rows refused {}, words in {}, words out {}",
-            self.ticks, self.refused, self.entered, self.left
+            self.totals.ticks, self.totals.refused, self.totals.entered, self.totals.left
         )?;
         for balance in &self.balances {
             print_weights(rt, balance)?;
