@@ -44,7 +44,8 @@ fn product(weight: i32, count: u16) -> i128
 
 // What weights come to over counts: the sum, over belts, of weight times count.
 fn over_counts(weights: &[i32], counts: &[u16]) -> i128
-    ensures { result ≡ comes_to (length weights.now) (weighting weights.now) (λ b. pos (slice_index counts.now b)) }
+    ensures { result
+        ≡ comes_to (length weights.now) (weighting weights.now) (λ b. pos (slice_index counts.now b)) }
 {
     let mut sum: i128 = 0;
     for (belt, weight) in weights.iter().enumerate() {
@@ -103,7 +104,8 @@ fn balances_from(
 ) -> Result<Vec<Balance>, AllocError>
     requires some { 1 ≤ belts }
     requires enough { count * belts ≤ length weights.now }
-    ensures { IfOk result (λ v. map seen v.items ≡ map (watched kind) (rows_of count belts weights.now)) }
+    ensures { IfOk result
+        (λ v. map seen v.items ≡ map (watched kind) (rows_of count belts weights.now)) }
 {
     let mut balances = Vec::new(heap);
     for row in weights.chunks_exact(belts).take(count) {

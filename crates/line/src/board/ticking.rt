@@ -93,7 +93,8 @@ impl Board {
         events: &mut [u8],
     ) -> (usize, usize)
         requires { 2 * belt_count (nodes_in self.old.sheet) ≤ length events.old }
-        ensures exact { record { answer = Ok result; memory = events.new; after = running (B.belts bank.new) self.new }
+        ensures exact { let after = running (B.belts bank.new) self.new in
+            record { answer = Ok result; memory = events.new; after = after }
             ≡ tick_step (running (B.belts bank.old) self.old) sensors.now events.old }
         ensures pair { let n = belt_count (nodes_in self.old.sheet) in
             result ≡ (sum (entered_in n events.new), sum (left_in n events.new)) }
@@ -113,7 +114,8 @@ impl Board {
         sensors: &[u8],
         events: &mut [u8],
     ) -> Result<(usize, usize), Fault>
-        ensures exact { record { answer = result; memory = events.new; after = running (B.belts bank.new) self.new }
+        ensures exact { let after = running (B.belts bank.new) self.new in
+            record { answer = result; memory = events.new; after = after }
             ≡ lines.tick (running (B.belts bank.old) self.old) sensors.now events.old }
         ensures pair { let n = belt_count (nodes_in self.old.sheet) in
             IfOk result (λ p. p ≡ (sum (entered_in n events.new), sum (left_in n events.new))) }

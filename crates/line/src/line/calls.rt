@@ -38,7 +38,8 @@ impl<B: Bank> Line<B> {
     /// One tick, with one byte of 0 or 1 for each sensor, in line order. Writes two bytes for each belt, entered and left,
     /// in belt order, and answers how many belts took a word in and how many gave one up.
     pub fn tick(&mut self, sensors: &[u8], events: &mut [u8]) -> Result<(usize, usize), Fault>
-        ensures exact { record { answer = result; memory = events.new; after = view B.belts self.new }
+        ensures exact { let after = view B.belts self.new in
+            record { answer = result; memory = events.new; after = after }
             ≡ lines.tick (view B.belts self.old) sensors.now events.old }
         ensures pair { let n = belt_count (view B.belts self.old).sheet in
             IfOk result (λ p. p ≡ (sum (entered_in n events.new), sum (left_in n events.new))) }
