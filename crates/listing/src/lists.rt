@@ -10,7 +10,8 @@ use sheet::fault::Fault;
 /// and answers how many bytes it has. Later bytes stay, and a refusal changes nothing. 9,504 bytes are enough for every list.
 #[tactic(auto, using(crate::proofs::Numbered::short_listed))]
 pub fn list_balances(text: &[u8], list: &mut [u8]) -> Result<usize, Fault>
-    ensures exact { record { answer = result; memory = list.new } ≡ list_balances text.now list.old }
+    ensures exact { record { answer = result; memory = list.new }
+        ≡ list_balances text.now list.old }
     ensures within { IfOk result (λ n. n ≤ length list.new) }
     ensures numbers { IfErr result (IsOneOf list_numbers) }
     ensures enough { (bytes : List ℕ) → list_of text.now ≡ Ok bytes → length bytes ≤ 9504 }
