@@ -20,9 +20,9 @@ pub fn six_lanes() -> SixLanes
     ensures lanes { rack_of result.first ≡ racked 6 16 4 }
     ensures front { ring_of result.second.belt.front ≡ made 8 4 }
     ensures rear { ring_of result.second.belt.rear ≡ made 8 4 }
-    ensures bank { let crossover = result.second.belt in
-        beside (rack_of result.first) (in_series (ring_of crossover.front) (ring_of crossover.rear) ∷ [])
-        ≡ six_lanes }
+    ensures bank { let belts = result.second.belt in
+        let crossover = in_series (ring_of belts.front) (ring_of belts.rear) in
+        beside (rack_of result.first) (crossover ∷ []) ≡ six_lanes }
 {
     let lanes = Rack::new(6, 16, 4);
     let crossover = Series::new(Ring::new(8, 4), Ring::new(8, 4));

@@ -1,10 +1,10 @@
 ghost use Rattle.std.specs.Prelude.{◌≡◌, ◌*◌, ◌^◌, ◌≤◌, map, length, IfOk, pos, slice_index, ◌*ℤ◌, ◌≤ℤ◌, neg_ℤ};
 ghost use Rattle.sheet.specs.Views.{nodes_in};
 ghost use Rattle.elimination.specs.Memory.{rows_of};
-ghost use Rattle.flows.specs.Completeness.{comes_to, weighting};
 ghost use Rattle.flows.specs.Derivation.{derive};
 ghost use Rattle.simulate.specs.Kinds.{numbers_of};
 ghost use Rattle.simulate.specs.Balances.{seen, watched, Derived};
+ghost use Rattle.simulate.specs.Sums.{over_counts, sum_of};
 
 use derivation::{MOST_WEIGHTS, derive_parity, derive_whole};
 use sheet::fault::Fault;
@@ -44,8 +44,7 @@ fn product(weight: i32, count: u16) -> i128
 
 // What weights come to over counts: the sum, over belts, of weight times count.
 fn over_counts(weights: &[i32], counts: &[u16]) -> i128
-    ensures { result
-        ≡ comes_to (length weights.now) (weighting weights.now) (λ b. pos (slice_index counts.now b)) }
+    ensures { result ≡ over_counts weights.now counts.now }
 {
     let mut sum: i128 = 0;
     for (belt, weight) in weights.iter().enumerate() {
@@ -56,7 +55,6 @@ fn over_counts(weights: &[i32], counts: &[u16]) -> i128
 
 impl Balance {
     ghost use Rattle.std.specs.Prelude.{◌≢◌, IsNone, IsSome, Some};
-    ghost use Rattle.simulate.specs.Sums.{sum_of};
 
     // What it comes to over the counts; of a parity balance the remainder by 2.
     pub(crate) fn sum(&self, counts: &[u16]) -> i128
