@@ -101,26 +101,30 @@ fn derive<K: Derives>(sheet: &Sheet, weights: &mut [i32]) -> Result<usize, Fault
 /// Derives the balances of a sheet's belts in whole numbers: writes their weights, belt by belt, one balance after another,
 /// and answers how many balances there are. Later numbers stay, and a refusal changes nothing.
 pub fn derive_whole(sheet: &Sheet, weights: &mut [i32]) -> Result<usize, Fault>
-    ensures exact { record { answer = result; memory = weights.new } ≡ derive wholes (nodes_in sheet.now) weights.old }
+    ensures exact { record { answer = result; memory = weights.new }
+        ≡ derive wholes (nodes_in sheet.now) weights.old }
     ensures numbers { IfErr result (IsOneOf derive_numbers) }
     ensures complete { IfOk result (λ k.
         Complete Zero (count_by is_belt (nodes_in sheet.now)) (gain (nodes_in sheet.now))
         (rows_of k (count_by is_belt (nodes_in sheet.now)) weights.new)) }
     // the first nonzero weight of each balance is above zero
-    ensures signed { IfOk result (λ k. AllLeadAbove (rows_of k (count_by is_belt (nodes_in sheet.now)) weights.new)) }
+    ensures signed { IfOk result (λ k.
+        AllLeadAbove (rows_of k (count_by is_belt (nodes_in sheet.now)) weights.new)) }
 {
     derive::<Whole>(sheet, weights)
 }
 
 /// The same in parities: 1 is written for an odd weight, 0 for an even one.
 pub fn derive_parity(sheet: &Sheet, weights: &mut [i32]) -> Result<usize, Fault>
-    ensures exact { record { answer = result; memory = weights.new } ≡ derive parities (nodes_in sheet.now) weights.old }
+    ensures exact { record { answer = result; memory = weights.new }
+        ≡ derive parities (nodes_in sheet.now) weights.old }
     ensures numbers { IfErr result (IsOneOf derive_numbers) }
     ensures complete { IfOk result (λ k.
         Complete Even (count_by is_belt (nodes_in sheet.now)) (gain (nodes_in sheet.now))
         (rows_of k (count_by is_belt (nodes_in sheet.now)) weights.new)) }
     // the first nonzero weight of each balance is above zero
-    ensures signed { IfOk result (λ k. AllLeadAbove (rows_of k (count_by is_belt (nodes_in sheet.now)) weights.new)) }
+    ensures signed { IfOk result (λ k.
+        AllLeadAbove (rows_of k (count_by is_belt (nodes_in sheet.now)) weights.new)) }
 {
     derive::<Parity>(sheet, weights)
 }

@@ -61,7 +61,8 @@ pub trait Number: Copy {
 
     /// The number that a whole number counts as, or nothing past the limit.
     fn counted(n: i64) -> Option<Self>
-        ensures { MatchOption result (past kind (kind.counts n) ≡ true) (λ x. value x ≡ kind.counts n) };
+        ensures { MatchOption result (past kind (kind.counts n) ≡ true)
+            (λ x. value x ≡ kind.counts n) };
 
     /// The whole number as which a number is written.
     fn written(self) -> i32
@@ -69,8 +70,10 @@ pub trait Number: Copy {
 
     /// Both numbers over their divisor.
     fn lowest(c: Self, p: Self) -> (Self, Self)
-        ensures first { value result.0 ≡ kind.quotient (value c) (kind.divisor (value c) (value p)) }
-        ensures second { value result.1 ≡ kind.quotient (value p) (kind.divisor (value c) (value p)) };
+        ensures first { value result.0
+            ≡ kind.quotient (value c) (kind.divisor (value c) (value p)) }
+        ensures second { value result.1
+            ≡ kind.quotient (value p) (kind.divisor (value c) (value p)) };
 
     /// Zero, as a sum.
     fn zero_sum() -> Self::Sum
