@@ -3,6 +3,7 @@ use Rattle.std.proofs.Common.{◌≡◌, ℕ, zero, suc, ◌+◌, ◌-◌, ◌<�
 use native.Mathlib.Decide.{ℕ_discrete}
 use Rattle.std.specs.List.{AllByRecursion}
 use Rattle.std.specs.Option.{option_map_or}
+use Rattle.std.proofs.lemmas.List.{append_assoc, append-nil}
 use Rattle.std.proofs.lemmas.Bool.{cond_both, cond-true, cond-false, eqb-true}
 use Rattle.kinds.specs.Kinds.{Kind, Lawful}
 use Rattle.kinds.specs.Elimination.{kept_under, Handled, kept, balance, passes, State, at, stepped, any_past, leads_below, negated_if, handled, added, starts, eliminated, eliminate}
@@ -124,8 +125,8 @@ module _ {K : Kind} (L : Lawful K) where
   AllKept n m s = AllByRecursion (λ x. IsKeptRow K n m x.0 x.1) s.rows
 
   pub kept_by_lowest : KeptByLowest K
-  kept_by_lowest n m _ at_first = tt
-  kept_by_lowest n m t (after_row {s} r a e) = go (kept_by_lowest n m s a) (handled K n s.rows m 0 r) (told L n m s.rows (kept_by_lowest n m s a) m 0 r (omega arith) (λ i l. absurd (omega arith))) e
+  kept_by_lowest n m _ _ at_first = tt
+  kept_by_lowest n m _ t (after_row {rs} {s} r a p e) = go (kept_by_lowest n m rs s a) (handled K n s.rows m 0 r) (told L n m s.rows (kept_by_lowest n m rs s a) m 0 r (omega arith) (λ i l. absurd (omega arith))) e
     where
       go : AllKept n m s → (h : Handled A) → Told L n m s.rows h → added K n s h ≡ Some t → AllKept n m t
       go all (kept j q) k e =
@@ -137,24 +138,32 @@ module _ {K : Kind} (L : Lawful K) where
       go all passes k e = absurd (let z : ◌≡◌ {A = ℕ} 0 1 = cc in omega arith)
 
   pub ends_without_terms : EndsWithoutTerms K
-  ends_without_terms n m s a r q e =
-      subst (Told L n m s.rows) e (told L n m s.rows (kept_by_lowest n m s a) m 0 r (omega arith) (λ i l. absurd (omega arith)))
+  ends_without_terms n m rs s a r q e =
+      subst (Told L n m s.rows) e (told L n m s.rows (kept_by_lowest n m rs s a) m 0 r (omega arith) (λ i l. absurd (omega arith)))
 
   pub steps_at_lowest : StepsAtLowest K
-  steps_at_lowest n m s a = by_lowest L n m s.rows (kept_by_lowest n m s a)
+  steps_at_lowest n m rs s a = by_lowest L n m s.rows (kept_by_lowest n m rs s a)
 
-  ends_from : (n m : ℕ) (rs : List (List A)) (b : ℕ) (s : State A) (ws : List (List A)) → Arises K n m s → eliminated K n m s b rs ≡ Ok ws → (t : State A) × Arises K n m t × (ws ≡ t.balances)
+  -- the rows rs, after those that are done: the state that arises from all of them
+  abbrev EndsFrom : (n m : ℕ) → List (List A) → List (List A) → Type 0
+  EndsFrom n m rs ws = (t : State A) × Arises K n m rs t × (ws ≡ t.balances)
+
+  ends_from : (n m : ℕ) (done rs : List (List A)) (b : ℕ) (s : State A) (ws : List (List A)) → Arises K n m done s → eliminated K n m s b rs ≡ Ok ws → EndsFrom n m (done ++ rs) ws
   unfolding eliminated
-  ends_from n m [] b s ws a e = let f : s.balances ≡ ws = cc in (s, a, sym f)
-  ends_from n m (r ∷ rs) b s ws a e = go (any_past K r) (added K n s (handled K n s.rows m 0 r)) refl (λ t k. ends_from n m rs (suc b) t ws k) e
+  ends_from n m done [] b s ws a e =
+      let f : s.balances ≡ ws = cc in
+      subst (λ rs. EndsFrom n m rs ws) (sym (append-nil done)) (s, a, sym f)
+  ends_from n m done (r ∷ rs) b s ws a e =
+      subst (λ xs. EndsFrom n m xs ws) (append_assoc done (r ∷ []) rs)
+      (go (any_past K r) refl (added K n s (handled K n s.rows m 0 r)) refl (λ t k. ends_from n m (done ++ r ∷ []) rs (suc b) t ws k) e)
     where
-      go : (past : Bool) (o : Option (State A)) → added K n s (handled K n s.rows m 0 r) ≡ o
-          → ((t : State A) → Arises K n m t → eliminated K n m t (suc b) rs ≡ Ok ws → (u : State A) × Arises K n m u × (ws ≡ u.balances))
-          → cond past (Err b) (option_map_or (λ more. eliminated K n m more (suc b) rs) o (Err b)) ≡ Ok ws → (u : State A) × Arises K n m u × (ws ≡ u.balances)
-      go true o f ih e = absurd (let z : ◌≡◌ {A = ℕ} 0 1 = cc in omega arith)
-      go false None f ih e = absurd (let z : ◌≡◌ {A = ℕ} 0 1 = cc in omega arith)
-      go false (Some t) f ih e = ih t (after_row r a f) e
+      go : (past : Bool) → any_past K r ≡ past → (o : Option (State A)) → added K n s (handled K n s.rows m 0 r) ≡ o
+          → ((t : State A) → Arises K n m (done ++ r ∷ []) t → eliminated K n m t (suc b) rs ≡ Ok ws → EndsFrom n m ((done ++ r ∷ []) ++ rs) ws)
+          → cond past (Err b) (option_map_or (λ more. eliminated K n m more (suc b) rs) o (Err b)) ≡ Ok ws → EndsFrom n m ((done ++ r ∷ []) ++ rs) ws
+      go true p o f ih e = absurd (let z : ◌≡◌ {A = ℕ} 0 1 = cc in omega arith)
+      go false p None f ih e = absurd (let z : ◌≡◌ {A = ℕ} 0 1 = cc in omega arith)
+      go false p (Some t) f ih e = ih t (after_row r a p f) e
 
   pub ends_in_state : EndsInState K
   unfolding eliminate
-  ends_in_state m fs ws e = ends_from (length fs) m (starts K (length fs) 0 fs) 0 _ ws at_first e
+  ends_in_state m fs ws e = ends_from (length fs) m [] (starts K (length fs) 0 fs) 0 _ ws at_first e
