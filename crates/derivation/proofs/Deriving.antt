@@ -1,22 +1,20 @@
 -- From a table and its elimination to what derivation answers and writes.
 use Rattle.std.proofs.Common.{◌≡◌, ℕ, suc, ◌+◌, ◌*◌, ◌<◌, ◌≤◌, Bool, true, false, cond, ltb, List, [], ◌∷◌, ◌++◌, map, length, drop, ℤ, IfOk, Some, None, Ok, Err, count_by, Option, Result, sym, refl, ap, ◌∙◌, subst, ap₂, suc-mul, zero-mul, arith}
-use Rattle.std.specs.Prelude.{Contains, IfErr}
+use Rattle.std.specs.Prelude.{IfErr}
 use Rattle.std.specs.List.{flat_map, AllByRecursion}
 use Rattle.std.proofs.lemmas.List.{append_assoc, append-nil, map-append, length-append, length-map, take_at, drop_at}
 use Rattle.std.proofs.lemmas.List.Folds.{flat_map-map}
 use Rattle.std.proofs.lemmas.Bool.{and_from, le-leb, ltb-false, eq-eqb}
 use Rattle.sheet.specs.declared.node.Node.{Node}
 use Rattle.sheet.specs.declared.fault.Fault.{Fault}
-use Rattle.sheet.specs.declared.node.Node.TheVariants.{Free, Belt, Gate}
-use Rattle.sheet.specs.declared.fault.Refusal.TheVariants.{ShortWeights, ManyColumns, LongForm, LongForms, LargeCoefficient}
-use Rattle.sheet.specs.Nodes.{is_belt, is_free}
-use Rattle.sheet.specs.Wires.{bit}
+use Rattle.sheet.specs.declared.fault.Refusal.TheVariants.{ShortWeights, ManyColumns}
+use Rattle.sheet.specs.Nodes.{is_belt}
 use Rattle.sheet.specs.Outcomes.{Outcome, written}
 use Rattle.sheet.specs.Refusals.{and_then, refuse_if, IsOneOf, derive_numbers}
 use Rattle.sheet.proofs.Numbers.{Within, if_within, written_within}
 use Rattle.sheet.proofs.Refusals.{ok_err, passed_if}
 use Rattle.terms.specs.Forms.{Form}
-use Rattle.forms.specs.Gates.{large, together, node_form, limits_from, limits}
+use Rattle.forms.specs.Gates.{limits}
 use Rattle.kinds.specs.Kinds.{Kind}
 use Rattle.std.specs.Option.{option_map_or}
 use Rattle.kinds.specs.Elimination.{State, any_past, handled, added, eliminated, eliminate, starts}

@@ -1,4 +1,4 @@
-// The balances of a sheet's belts: which weighted sums of belt counts are always zero, or always even.
+//! The balances of a sheet's belts: which weighted sums of belt counts are always zero, or always even.
 #![tactic(auto)]
 
 mod columns;

@@ -1,4 +1,4 @@
-// Elimination of rows of whole coefficients, over whole numbers and over parities.
+//! Elimination of rows of whole coefficients, over whole numbers and over parities.
 #![tactic(auto)]
 
 mod filed;

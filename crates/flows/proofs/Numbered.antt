@@ -1,5 +1,5 @@
 -- With which numbers the derivation of a sheet's balances may refuse.
-use Rattle.std.proofs.Common.{ℕ, List, map, length, ℤ, Ok, Err, Result}
+use Rattle.std.proofs.Common.{ℕ, List, map, length, Ok, Err, Result}
 use Rattle.std.specs.Prelude.{Contains, nat_lt}
 use Rattle.sheet.specs.declared.node.Node.{Node}
 use Rattle.sheet.specs.declared.fault.Refusal.TheVariants.{ManyColumns}

@@ -1,4 +1,4 @@
-// The flows of a sheet's belts, their columns, and what the balances derived from them are.
+//! The flows of a sheet's belts, their columns, and what the balances derived from them are.
 #![tactic(auto)]
 
 ghost use Rattle.kinds.specs.Kinds.{wholes, parities};

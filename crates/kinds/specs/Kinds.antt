@@ -1,5 +1,5 @@
 -- The kinds of number that elimination works on: whole numbers and parities. Assumes nothing.
-use Rattle.std.specs.Prelude.{◌≡◌, ℕ, zero, suc, ◌%◌, Bool, true, false, cond, not, ◌&&◌, ℤ, pos, ◌+ℤ◌, ◌*ℤ◌, neg_ℤ, ◌==◌, ◌≢◌, int_lt, nat_lt, unsigned_abs}
+use Rattle.std.specs.Prelude.{◌≡◌, ℕ, zero, suc, ◌%◌, Bool, true, false, cond, if◌then◌else◌, not, ◌&&◌, ℤ, pos, ◌+ℤ◌, ◌*ℤ◌, neg_ℤ, ◌==◌, ◌≢◌, int_lt, nat_lt, unsigned_abs}
 use Rattle.std.specs.Int.Signed.{quot_z}
 
 -- what elimination does with numbers, as what number a whole number counts, and as what whole number a number is written
@@ -102,7 +102,7 @@ parities = record {
   quotient = λ x d. x;
   below = λ x. false;
   limit = 1;
-  size = λ x. cond x 1 0;
+  size = λ x. if x then 1 else 0;
   counts = λ x. (unsigned_abs x % 2 == 1);
   writes = λ x. cond x (pos 1) (pos 0);
 }

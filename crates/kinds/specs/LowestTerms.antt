@@ -53,7 +53,7 @@ pub record ByLowestTerm (K : Kind) (n m : ℕ) (rows : List (ℕ × List K.Num))
       (r s : List K.Num) (j : ℕ) → j < m → HasLowest K n j r → kept_under rows j ≡ Some s
       → HasLowest K n j s
       × (handled K n rows m 0 r ≡ (let q = stepped K (at K r (n + j)) (at K s (n + j)) r s in
-          if any_past K q then passes else handled K n rows m 0 q))
+      if any_past K q then passes else handled K n rows m 0 q))
   -- no kept row has it: the row is kept under it, negated when it is below zero there
   pub keeps :
       (r : List K.Num) (j : ℕ) → j < m → HasLowest K n j r → kept_under rows j ≡ None

@@ -1,4 +1,4 @@
-// Kinds of number, and what elimination over them gives.
+//! Kinds of number, and what elimination over them gives.
 #![tactic(auto)]
 
 ghost use Rattle.std.specs.Prelude.{◌≡◌, true, false, MatchOption};

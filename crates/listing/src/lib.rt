@@ -1,4 +1,4 @@
-// The whole work on a text: from a sheet to the printed list of its balances.
+//! The whole work on a text: from a sheet to the printed list of its balances.
 #![tactic(auto)]
 
 mod answer;

@@ -1,4 +1,4 @@
-// Any list of calls on a line, with a report of each, and what the reports tell of the belts.
+//! Any list of calls on a line, with a report of each, and what the reports tell of the belts.
 #![tactic(auto)]
 
 pub mod calls;

@@ -4,7 +4,7 @@ use Rattle.std.proofs.lemmas.List.{append_assoc, at_drop_more, drop_at, drop-dro
 use Rattle.terms.specs.declared.term.Term.{Term}
 use Rattle.terms.specs.Sets.{number_of, bytes_of}
 use Rattle.terms.specs.Forms.{Form, norm}
-use Rattle.terms.specs.Records.{entry_of, form_in, term_of, blank, Held}
+use Rattle.terms.specs.Records.{entry_of, form_in, term_of, blank_term, Held}
 use Rattle.terms.specs.Editing.{InFront}
 use Rattle.terms.proofs.Bytes.{bytes_number}
 
@@ -84,8 +84,8 @@ in_front reach n p W W' h = record {
   within = omega (arith, ap length h.records ∙ length-append (map term_of p) _, length-map p term_of, h.count);
   bound = h.bound;
   form = h.form;
-  rest = ap (drop reach) (h.records ∙ sym (append_assoc (map term_of p) (replicate (reach - n) blank) (drop reach W))) ∙ drop_at (map term_of p ++ replicate (reach - n) blank) (drop reach W) reach size;
+  rest = ap (drop reach) (h.records ∙ sym (append_assoc (map term_of p) (replicate (reach - n) blank_term) (drop reach W))) ∙ drop_at (map term_of p ++ replicate (reach - n) blank_term) (drop reach W) reach size;
 }
   where
-    size : length (map term_of p ++ replicate (reach - n) blank) ≡ reach
-    size = length-append (map term_of p) (replicate (reach - n) blank) ∙ omega (arith, length-map p term_of, length-replicate (reach - n) blank, h.count, h.bound)
+    size : length (map term_of p ++ replicate (reach - n) blank_term) ≡ reach
+    size = length-append (map term_of p) (replicate (reach - n) blank_term) ∙ omega (arith, length-map p term_of, length-replicate (reach - n) blank_term, h.count, h.bound)

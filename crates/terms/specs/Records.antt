@@ -16,8 +16,8 @@ abbrev pub term_of : ℕ × ℤ → Term
 term_of t = record { set = bytes_of 16 t.0; coefficient = t.1 }
 
 -- the record that holds no term
-abbrev pub blank : Term
-blank = record { set = replicate 16 0; coefficient = pos 0 }
+abbrev pub blank_term : Term
+blank_term = record { set = replicate 16 0; coefficient = pos 0 }
 
 -- an operand is light: its coefficients come to less than 2^30 together
 abbrev pub light : List Term → Bool
@@ -57,7 +57,7 @@ pub record Held (reach : ℕ) (p : Form) (before after : List Term) (n : ℕ) : 
   pub count : n ≡ length p
   pub bound : n ≤ reach
   pub form : form_in (take n after) ≡ p
-  pub records : after ≡ map term_of p ++ (replicate (reach - n) blank ++ drop reach before)
+  pub records : after ≡ map term_of p ++ (replicate (reach - n) blank_term ++ drop reach before)
 
 -- refused exactly where it does not fit, and then nothing changes; else the form p is held
 abbrev pub Merged : Bool → ℕ → Form → List Term → List Term → Option ℕ → Type 0

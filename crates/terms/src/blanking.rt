@@ -1,5 +1,5 @@
 ghost use Rattle.std.specs.Prelude.{◌≡◌, ◌-◌, ◌≤◌, ◌++◌, map, length, take, drop, replicate};
-ghost use Rattle.terms.specs.Records.{entry_of, form_in, term_of, blank};
+ghost use Rattle.terms.specs.Records.{entry_of, form_in, term_of, blank_term};
 
 use super::term::Term;
 
@@ -7,9 +7,10 @@ use super::term::Term;
 pub(super) fn blank_behind(work: &mut [Term], len: usize, reach: usize)
     requires { (len ≤ reach) × (reach ≤ length work.old) }
     ensures whole { work.new
-        ≡ take len work.old ++ (replicate (reach - len) blank ++ drop reach work.old) }
+        ≡ take len work.old ++ (replicate (reach - len) blank_term ++ drop reach work.old) }
     ensures terms { map term_of (form_in (take len work.old)) ≡ take len work.old }
 {
+    // nothing is done with the records in use: a record's bytes are known to be sixteen once it is read
     for t in &work[..len] {
         read(*t);
     }
@@ -18,14 +19,14 @@ pub(super) fn blank_behind(work: &mut [Term], len: usize, reach: usize)
     }
 }
 
-// A record has sixteen bytes, which is known once it is read.
+// Of a record that is read: it is the record of its term.
 fn read(term: Term)
     ensures { term_of (entry_of term) ≡ term }
 {}
 
 // A record that no form uses.
 fn unused() -> Term
-    ensures { result ≡ blank }
+    ensures { result ≡ blank_term }
 {
     Term::default()
 }
