@@ -20,7 +20,7 @@ use Rattle.derivation.proofs.Deriving.{rows_back}
 use Rattle.simulate.specs.declared.balance.Kind.{Kind}
 use Rattle.simulate.specs.declared.balance.Kind.TheVariants.{Whole, Parity}
 use Rattle.simulate.specs.Kinds.{numbers_of}
-use Rattle.simulate.specs.Balances.{Seen, watched, Derived}
+use Rattle.simulate.specs.Balances.{BalanceValue, new_balance, Derived}
 
 -- a turn: the next row of what is left
 module _ (n k k' : ℕ) (rest row rest' : List ℤ) (is : rest ≡ row ++ rest') (size : length row ≡ n) (more : k' + 1 ≡ k) where
@@ -30,7 +30,7 @@ module _ (n k k' : ℕ) (rest row rest' : List ℤ) (is : rest ≡ row ++ rest')
   pub room_on : k * n ≤ length rest → k' * n ≤ length rest'
   room_on h = let l = ap length is ∙ length-append row rest' in let m = ap (λ j. j * n) one_more ∙ suc-mul k' n in omega arith
 
-  pub watched_on : (f : List ℤ → Seen) (front all : List Seen) → front ++ map f (rows_of k n rest) ≡ all → (front ++ f row ∷ []) ++ map f (rows_of k' n rest') ≡ all
+  pub watched_on : (f : List ℤ → BalanceValue) (front all : List BalanceValue) → front ++ map f (rows_of k n rest) ≡ all → (front ++ f row ∷ []) ++ map f (rows_of k' n rest') ≡ all
   watched_on f front all h =
       append_assoc front (f row ∷ []) (map f (rows_of k' n rest'))
       ∙ ap (λ xs. front ++ xs)
@@ -84,9 +84,9 @@ module _ (ns : List Node) (weights after : List ℤ) (count : ℕ) where
       by Parity e = written_in parities_count e
 
 -- the balances watched are those derived, where rows are of one weight at least
-pub watched_are : (kind : Kind) (ns : List Node) (count size : ℕ) (after : List ℤ) (balances : List Seen) → Written (numbers_of kind) ns count after → size ≡ max (count_by is_belt ns) 1
-    → balances ≡ map (watched kind) (rows_of count size after) → Derived kind ns balances
-watched_are kind ns count size after balances w es eb = record { weights = w.weights; derived = w.found; watched = eb ∙ ap (map (watched kind)) (rows count w.few ∙ w.rows) }
+pub watched_are : (kind : Kind) (ns : List Node) (count size : ℕ) (after : List ℤ) (balances : List BalanceValue) → Written (numbers_of kind) ns count after → size ≡ max (count_by is_belt ns) 1
+    → balances ≡ map (new_balance kind) (rows_of count size after) → Derived kind ns balances
+watched_are kind ns count size after balances w es eb = record { weights = w.weights; found = w.found; all = eb ∙ ap (map (new_balance kind)) (rows count w.few ∙ w.rows) }
   where
     rows : (k : ℕ) → k ≤ count_by is_belt ns → rows_of k size after ≡ rows_of k (count_by is_belt ns) after
     rows zero h = refl

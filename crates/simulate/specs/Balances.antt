@@ -7,20 +7,21 @@ use Rattle.simulate.specs.declared.balance.Balance.{Balance}
 use Rattle.simulate.specs.declared.balance.Kind.{Kind}
 
 -- a balance that is watched: its kind, its weights, and the first tick after which it was off
-pub record Seen : Type 0 where
+pub record BalanceValue : Type 0 where
   pub kind : Kind
   pub weights : List ℤ
   pub off : Option ℕ
 
-abbrev pub seen : Balance → Seen
-seen b = record { kind = b.kind; weights = b.weights.items; off = b.off }
+-- what a balance that is watched tells
+abbrev pub balance_in : Balance → BalanceValue
+balance_in b = record { kind = b.kind; weights = b.weights.items; off = b.off }
 
--- weights that are watched from now on
-abbrev pub watched : Kind → List ℤ → Seen
-watched kind weights = record { kind = kind; weights = weights; off = None }
+-- a balance of these weights that was never off
+abbrev pub new_balance : Kind → List ℤ → BalanceValue
+new_balance kind weights = record { kind = kind; weights = weights; off = None }
 
--- the balances that derivation gives for the sheet's lines, watched from now on
-pub record Derived (kind : Kind) (ns : List Node) (balances : List Seen) : Type 0 where
+-- the balances that derivation gives for the sheet's lines, none of which was off yet
+pub record Derived (kind : Kind) (ns : List Node) (balances : List BalanceValue) : Type 0 where
   pub weights : List (List ℤ)
-  pub derived : derived (numbers_of kind) ns ≡ Ok weights
-  pub watched : balances ≡ map (watched kind) weights
+  pub found : derived (numbers_of kind) ns ≡ Ok weights
+  pub all : balances ≡ map (new_balance kind) weights

@@ -17,10 +17,10 @@ abbrev pub over_counts : List ℤ → List ℕ → ℤ
 over_counts weights counts = comes_to (length weights) (weighting weights) (λ b. pos (slice_index counts b))
 
 -- what is shown of it: of a whole balance the sum itself, of a parity balance its remainder by 2
-abbrev pub shown : Kind → ℤ → ℤ
-shown Whole x = x
-shown Parity x = int_rem_euclid x (pos 2)
+abbrev pub shown_number : Kind → ℤ → ℤ
+shown_number Whole x = x
+shown_number Parity x = int_rem_euclid x (pos 2)
 
 -- what a balance comes to over counts
 abbrev pub sum_of : Balance → List ℕ → ℤ
-sum_of b counts = shown b.kind (over_counts b.weights.items counts)
+sum_of b counts = shown_number b.kind (over_counts b.weights.items counts)

@@ -2,5 +2,5 @@
 use Rattle.std.specs.Prelude.{ℕ, ◌+◌, ◌-◌, ◌^◌, min}
 
 -- so many more, at most the largest number
-abbrev pub raised : ℕ → ℕ → ℕ
-raised n more = min (n + more) (2 ^ 64 - 1)
+abbrev pub capped_sum : ℕ → ℕ → ℕ
+capped_sum n more = min (n + more) (2 ^ 64 - 1)

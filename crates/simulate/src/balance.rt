@@ -3,7 +3,7 @@ ghost use Rattle.sheet.specs.Views.{nodes_in};
 ghost use Rattle.elimination.specs.Memory.{rows_of};
 ghost use Rattle.flows.specs.Derivation.{derive};
 ghost use Rattle.simulate.specs.Kinds.{numbers_of};
-ghost use Rattle.simulate.specs.Balances.{seen, watched, Derived};
+ghost use Rattle.simulate.specs.Balances.{balance_in, new_balance, Derived};
 ghost use Rattle.simulate.specs.Sums.{over_counts, sum_of};
 
 use derivation::{MOST_WEIGHTS, derive_parity, derive_whole};
@@ -103,7 +103,7 @@ fn balances_from(
     requires some { 1 ≤ belts }
     requires enough { count * belts ≤ length weights.now }
     ensures { IfOk result
-        (λ v. map seen v.items ≡ map (watched kind) (rows_of count belts weights.now)) }
+        (λ v. map balance_in v.items ≡ map (new_balance kind) (rows_of count belts weights.now)) }
 {
     let mut balances = Vec::new(heap);
     for row in weights.chunks_exact(belts).take(count) {
@@ -118,7 +118,7 @@ fn balances_from(
 
 // The balances of a sheet's belts, of one kind.
 pub(crate) fn balances_of(heap: Global, sheet: &Sheet, kind: Kind) -> anyhow::Result<Vec<Balance>>
-    ensures { IfOk result (λ v. Derived kind (nodes_in sheet.now) (map seen v.items)) }
+    ensures { IfOk result (λ v. Derived kind (nodes_in sheet.now) (map balance_in v.items)) }
 {
     let mut weights = [0; MOST_WEIGHTS];
     let count = derive(sheet, kind, &mut weights)?;
