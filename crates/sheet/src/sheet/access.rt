@@ -16,7 +16,10 @@ use crate::sheet::Sheet;
 fn count_of(class: Class, nodes: &[Node]) -> usize
     ensures { result ≡ count_of class nodes.now }
 {
-    nodes.iter().filter(|node| node.is_of(class)).count()
+    nodes
+        .iter()
+        .map(|node| usize::from(node.is_of(class)))
+        .sum()
 }
 
 impl Sheet {

@@ -1,0 +1,7 @@
+use Rattle.std.proofs.Common.{◌^◌, ◌-◌, arith, rules, tests}
+use Rattle.std.proofs.lemmas.Iterator.{YieldsList-from_slice}
+use Rattle.std.proofs.lemmas.Iterator.Adapters.{fits_from_length, at_most_from_yields_List}
+use Rattle.sheet.proofs.sheet.access.count_of.Goals as goal
+
+pub sum-requires-clause-fits : goal.sum-requires-clause-fits
+sum-requires-clause-fits c = fits_from_length _ _ (2 ^ 64 - 1) _ (at_most_from_yields_List (YieldsList-from_slice c.args.nodes.now cc) (grind arith)) c.map.ensures.closure (omega arith) (λ x r q k. search (rules, tests))
