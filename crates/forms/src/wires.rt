@@ -49,7 +49,8 @@ fn write_wire(sheet: &Sheet, wire: u16, records: &mut [Term]) -> Result<usize, F
         Counts (nodes_in sheet.now) wire (form_in (take n records.new))) }
     ensures numbers { IfErr result (IsOneOf term_numbers) }
 {
-    let forms = Forms::of(sheet)?;
+    let mut forms = Forms::none();
+    forms.fill(sheet)?;
     write_form(forms.line(wire), records).ok_or(Refusal::ShortRecords.into())
 }
 
@@ -63,6 +64,7 @@ fn compare_wires(sheet: &Sheet, one: u16, other: u16) -> Result<bool, Fault>
     ensures agree { IfOk result (λ b. IsTrue b ↔ Agree (nodes_in sheet.now) one other) }
     ensures numbers { IfErr result (IsOneOf same_form_numbers) }
 {
-    let forms = Forms::of(sheet)?;
+    let mut forms = Forms::none();
+    forms.fill(sheet)?;
     Ok(same(forms.line(one), forms.line(other)))
 }

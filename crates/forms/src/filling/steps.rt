@@ -90,6 +90,7 @@ pub(crate) fn fill(sheet: &Sheet, slots: &mut [Slot; MOST_LINES]) -> Result<(), 
         × ((n : ℕ) × (limits ns ≡ Ok n)))
         (λ e. limits ns ≡ Err e) }
     ensures numbers { IfErr result (IsOneOf form_numbers) }
+    ensures all { length slots.new ≡ length slots.old }
 {
     let mut work = [Term::default(); WORK];
     let mut filling = Filling { free: 0, terms: 0 };

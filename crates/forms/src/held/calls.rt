@@ -14,6 +14,28 @@ use sheet::sheet::Sheet;
 use terms::Term;
 
 impl Forms {
+    // No forms.
+    pub(crate) fn none() -> Forms
+        ensures { forms_in result ≡ [] }
+    {
+        Forms {
+            slots: [Slot::none(); MOST_LINES],
+            len: 0,
+        }
+    }
+
+    // Fills in the form of every line of a sheet, or tells the first limit that a gate passes.
+    pub(crate) fn fill(&mut self, sheet: &Sheet) -> Result<(), Fault>
+        ensures exact { MatchResult result
+            (λ _. Allowed (nodes_in sheet.now) (forms_in self.new))
+            (Refused (nodes_in sheet.now)) }
+        ensures numbers { IfErr result (IsOneOf form_numbers) }
+    {
+        fill(sheet, &mut self.slots)?;
+        self.len = sheet.len();
+        Ok(())
+    }
+
     /// The form of every line of a sheet, or the first limit that a gate passes.
     pub fn of(sheet: &Sheet) -> Result<Forms, Fault>
         ensures exact { MatchResult result
@@ -21,12 +43,9 @@ impl Forms {
             (Refused (nodes_in sheet.now)) }
         ensures numbers { IfErr result (IsOneOf form_numbers) }
     {
-        let mut slots = [Slot::none(); MOST_LINES];
-        fill(sheet, &mut slots)?;
-        Ok(Forms {
-            slots,
-            len: sheet.len(),
-        })
+        let mut forms = Forms::none();
+        forms.fill(sheet)?;
+        Ok(forms)
     }
 
     /// The form of a line; past the last line there are no terms.

@@ -11,12 +11,12 @@ use Rattle.forms.proofs.wires.write_wire.Goals as goal
 
 pub returns-clause-tells : goal.returns-clause-tells
 returns-clause-tells c =
-    tells (nodes_in c.args.sheet.now) (forms_in c.in_ok-forms.forms) c.in_ok-forms.ensures.exact c.args.wire _ c.line.ensures.same _ _ _ _ c.write_form.ensures.form c.ok_or.ensures.value
+    tells (nodes_in c.args.sheet.now) (forms_in c.fill.new.self) c.in_ok-fill.ensures.exact c.args.wire _ c.line.ensures.same _ _ _ _ c.write_form.ensures.form c.ok_or.ensures.value
 
-pub returns-in_err-forms-clause-numbers : goal.returns-in_err-forms-clause-numbers
-returns-in_err-forms-clause-numbers c =
+pub returns-in_err-fill-clause-numbers : goal.returns-in_err-fill-clause-numbers
+returns-in_err-fill-clause-numbers c =
     let p = err_from_is_err_and c.from_residual.result c.from_residual.ensures.1 in
-    rw (p.1, p.2) (form_term _ c.in_err-forms.ensures.numbers)
+    rw (p.1, p.2) (form_term _ c.in_err-fill.ensures.numbers)
 
 pub returns-clause-numbers : goal.returns-clause-numbers
 returns-clause-numbers c = rw (c.ok_or.ensures.value, c.into.ensures) (or_within term_numbers c.write_form.result ShortRecords 0 (4, omega arith, refl))

@@ -25,7 +25,7 @@ returns-in_err-slot c =
     let p = err_from_is_err_and c.from_residual.result c.from_residual.ensures.1 in
     let l : c.loop-i.i < length c.loop-i.slots = omega (arith, c.nodes-node-items.ensures.lawful.lines, c.loop-i.invariant.1) in
     let e = ap limits (sym c.nodes-node-items.ensures.same) ∙ limits_here c.nodes-node-items.result.now c.loop-i.slots c.loop-i.i _ _ (omega arith) l c.loop-i.invariant.0 _ c.in_err-slot.ensures in
-    rw (p.1, p.2) (record { exact = e; numbers = limit_number _ _ e })
+    rw (p.1, p.2) (record { exact = e; numbers = limit_number _ _ e; all = c.loop-i.invariant.1 })
 
 pub loop-i-preserved : goal.loop-i-preserved
 loop-i-preserved c =
