@@ -29,6 +29,15 @@ impl Board {
         }
     }
 
+    // Takes another sheet, with the flops low.
+    pub(crate) fn mount(&mut self, sheet: &Sheet)
+        ensures sheet { nodes_in self.new.sheet ≡ nodes_in sheet.now }
+        ensures low { flops_of self.new ≡ low (nodes_in sheet.now) }
+    {
+        self.sheet = *sheet;
+        self.reset();
+    }
+
     // How many belts there are.
     pub(crate) fn belts(&self) -> usize
         ensures { result ≡ belt_count (nodes_in self.now.sheet) }

@@ -31,7 +31,10 @@ impl<B: Bank> Line<B> {
         ensures numbers { IfErr result (IsOneOf mount_numbers) }
     {
         check_mount(&self.bank, sheet)?;
-        self.board = Some(Board::new(sheet));
+        match self.board.as_mut() {
+            Some(board) => board.mount(sheet),
+            None => self.board = Some(Board::new(sheet)),
+        }
         Ok(())
     }
 
