@@ -32,13 +32,14 @@ impl<X: Bank, Y: Bank> Beside<X, Y> {
     fn side(&self, i: usize) -> Option<Side>
         ensures { StandsAt (X.belts self.now.first) (Y.belts self.now.second) i result }
     {
+        if i >= MOST {
+            return None;
+        }
         let n = self.first.size();
         if i < n {
             Some(Side::First(i))
-        } else if i < MOST {
-            Some(Side::Second(i - n))
         } else {
-            None
+            Some(Side::Second(i - n))
         }
     }
 }
