@@ -72,21 +72,22 @@ fn refusal_of(b: usize) -> EliminationError
     EliminationError::LargeNumber(b)
 }
 
-// All rows in order, in lent memory: first the row at work, then the kept rows.
+// All rows in order, in lent memory: first the row at work, then the kept rows. What is found is filed.
 fn eliminate<T: Number>(
     table: &Table,
     cells: &mut [T],
     sums: &mut [T::Sum],
-) -> Result<Filed, EliminationError>
+    filed: &mut Filed,
+) -> Result<(), EliminationError>
     requires cells { 9504 ≤ length cells.old }
     requires sums { 288 ≤ length sums.old }
-    ensures { MatchResult result (λ f. (f.found ≤ table.now.n) × AsWritten T.kind table.now.n f × (balances_of T.kind table.now.n table.now.m table.now.coefficients.now ≡ Ok (rows_of f.found table.now.n (map T.kind.counts f.weights)))) (λ e. (b : ℕ) × (e ≡ LargeNumber b) × (balances_of T.kind table.now.n table.now.m table.now.coefficients.now ≡ Err b)) }
+    requires empty { (filed.old.used ≡ 0) × (filed.old.found ≡ 0) }
+    ensures { MatchResult result (λ _. (filed.new.found ≤ table.now.n) × AsWritten T.kind table.now.n filed.new × (balances_of T.kind table.now.n table.now.m table.now.coefficients.now ≡ Ok (rows_of filed.new.found table.now.n (map T.kind.counts filed.new.weights)))) (λ e. (b : ℕ) × (e ≡ LargeNumber b) × (balances_of T.kind table.now.n table.now.m table.now.coefficients.now ≡ Err b)) }
 {
     let size = table.n + table.m;
     let (row, rows) = cells.split_at_mut(SIZE);
     let row = &mut row[0..size];
     let sums = &mut sums[0..size];
-    let mut filed = Filed::new();
     for b in 0..table.n {
         let large = refusal_of(b);
         start_row(row, table.n, b, table.row(b)).or(Err(large))?;
@@ -95,7 +96,7 @@ fn eliminate<T: Number>(
         let lead = handle(row, sums, &kept, table.n).or(Err(large))?;
         filed.keep(lead, row, table.n, rows);
     }
-    Ok(filed)
+    Ok(())
 }
 
 // Writes the first `count` numbers.
@@ -122,7 +123,8 @@ fn solve<T: Number>(
     ensures exact { IfOk result (λ k. Exact T.kind n m coefficients.now k weights.new) }
 {
     let table = Table::fitting(n, m, coefficients, weights.len())?;
-    let filed = eliminate(&table, cells, sums)?;
+    let mut filed = Filed::new();
+    eliminate(&table, cells, sums, &mut filed)?;
     write_front(weights, &filed.weights, filed.found * n);
     Ok(filed.found)
 }

@@ -13,8 +13,8 @@ pub loop-b-init : goal.loop-b-init
 loop-b-init g c =
     let v = g.T.Number in
     let t = c.args.table.now in
-    let f = c.new-filed.result in
-    let e = c.new-filed.ensures in (
+    let f = c.args.filed.now in
+    let e = c.requires.empty in (
       omega (arith, e.0, e.1),
       nothing_written v.kind t.n f.found f.weights e.1,
       ap (λ s. eliminated v.kind t.n t.m s 0 (left v.kind t.n t.m t.coefficients.now 0)) (nothing_filed t.n (t.n + t.m) f.used f.found f.leads (map v.value c.split_at_mut-row.result.1.now) (map v.kind.counts f.weights) e.0 e.1)

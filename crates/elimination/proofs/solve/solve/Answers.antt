@@ -14,13 +14,13 @@ returns-in_err-table-clause-result g c =
     let u = c.in_err-table.ensures.unfit in
     rw (p.1, p.2, u.0) (solved_unfit g.T.Number.kind a.n a.m a.coefficients.now a.weights.now u.1)
 
-pub returns-in_err-filed-clause-result : goal.returns-in_err-filed-clause-result
-returns-in_err-filed-clause-result g c =
+pub returns-in_err-eliminate-clause-result : goal.returns-in_err-eliminate-clause-result
+returns-in_err-eliminate-clause-result g c =
     let a = c.args in
     let k = g.T.Number.kind in
-    let p = err_from_is_err_and c.from_residual-in_err-filed.result c.from_residual-in_err-filed.ensures.1 in
+    let p = err_from_is_err_and c.from_residual-in_err-eliminate.result c.from_residual-in_err-eliminate.ensures.1 in
     let t = c.in_ok-table.ensures.fits in
-    let h = c.in_err-filed.ensures in
+    let h = c.in_err-eliminate.ensures in
     rw (p.1, p.2, h.1) (ap (answered k a.weights.now) (sym (same_table k t.1 t.2 t.3 ∙ h.2)) ∙ solved_fit k a.n a.m a.coefficients.now a.weights.now t.0)
 
 pub returns-clause-result : goal.returns-clause-result
@@ -28,8 +28,8 @@ returns-clause-result g c =
     let a = c.args in
     let k = g.T.Number.kind in
     let t = c.in_ok-table.ensures.fits in
-    let f = c.in_ok-filed.filed in
-    let h = c.in_ok-filed.ensures in
+    let f = c.eliminate.new.filed in
+    let h = c.in_ok-eliminate.ensures in
     let w = subst (λ z. AsWritten k z f) t.1 h.1 in
     let fit = fits a.n a.m _ _ t.0 in
     let l = all_balances f.found a.n (omega (arith, h.0, t.1)) fit.few in
