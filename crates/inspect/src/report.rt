@@ -1,3 +1,8 @@
+ghost use Rattle.std.specs.Prelude.{◌≡◌, ◌+◌, drop};
+ghost use Rattle.sheet.specs.Parts.{is_part};
+ghost use Rattle.sheet.specs.Rules.{lowest};
+ghost use Rattle.sheet.specs.declared.parts.Part.TheVariants as Of;
+
 use crate::explain::{broken_rule, names_a_line};
 use sheet::class::Class;
 use sheet::fault::Fault;
@@ -5,6 +10,9 @@ use sheet::node::Node;
 use sheet::parts::{Part, find_part};
 use sheet::sheet::Sheet;
 use std::fmt::{self, Display};
+
+// How many bit lines a belt may have.
+const MOST_BITS: usize = 4;
 
 // A line number, or a dash where there is none.
 #[derive(Clone, Copy)]
@@ -31,8 +39,18 @@ struct Belt<'a> {
 
 impl Belt<'_> {
     // The first line that is such a part of the belt.
-    fn part(&self, part: Part) -> Place {
-        Place(find_part(part, self.number, self.nodes, 0))
+    fn part(&self, part: Part) -> Option<usize>
+        ensures { result ≡ lowest (λ _ n. is_part part self.now.number n) 0 self.now.nodes.now }
+    {
+        find_part(part, self.number, self.nodes, 0)
+    }
+
+    // The first bit line of the belt behind a line.
+    fn bit_behind(&self, line: usize) -> Option<usize>
+        ensures { result ≡ lowest (λ _ n. is_part Of.Bit self.now.number n) (line + 1)
+            (drop (line + 1) self.now.nodes.now) }
+    {
+        find_part(Part::Bit, self.number, self.nodes, line.checked_add(1)?)
     }
 }
 
@@ -46,20 +64,19 @@ impl Display for Belt<'_> {
             take,
             ..
         } = *self;
-        let room = self.part(Part::Room);
-        let item = self.part(Part::Item);
-        let first = self.part(Part::Bit);
+        let room = Place(self.part(Part::Room));
+        let item = Place(self.part(Part::Item));
+        let mut bit = self.part(Part::Bit);
+        let first = Place(bit);
         write!(
             f,
             "{number:>4} {line:>5} {offer:>6} {take:>5} {room:>5} {item:>5}  {first}"
         )?;
-        let bits = self
-            .nodes
-            .iter()
-            .enumerate()
-            .filter(|(_, node)| node.is_part(Part::Bit, number));
-        for (bit, _) in bits.skip(1) {
-            write!(f, " {bit}")?;
+        for _ in 1..MOST_BITS {
+            bit = bit.and_then(|last| self.bit_behind(last));
+            if let Some(next) = bit {
+                write!(f, " {next}")?;
+            }
         }
         Ok(())
     }
